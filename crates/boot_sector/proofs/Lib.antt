@@ -1,0 +1,2 @@
+mod Sign
+mod Fields
