@@ -4,7 +4,7 @@ use mathlib.Core.Path.{_≡_, refl, sym, ap, _∙_}
 use Rattle.format.specs.Boot.{Geometry as G, Boot as B}
 use Rattle.types.specs.declared.Word.{Word}
 use Rattle.types.specs.declared.Word.the-variants.{Is, Out}
-use Rattle.types.specs.Refusals.{number, values, refusalBack, refusal-back}
+use Rattle.refusal.specs.Refusals.{number, values, refusalBack, refusal-back}
 use Rattle.boot_sector.specs.declared.Geometry.{Geometry}
 use Rattle.boot_sector.specs.declared.Boot.{Boot}
 use Rattle.boot_sector.specs.declared.Boot.the-variants as A

@@ -1,6 +1,6 @@
 // The geometry of a disk, read from its boot sector with refusals 1 to 7.
+use refusal::Refusal;
 use types::Delta;
-use types::Refusal;
 use types::Word;
 ghost use mathlib.Core.Path.{_≡_};
 ghost use Prim.Native.Nat.{_≤_, _^_};

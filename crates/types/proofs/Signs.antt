@@ -8,7 +8,7 @@ use borrow.Author.Tests.{ltb-true}
 use lib.Dec.{T}
 use lib.IntN.{ℤ, pos, negsuc, sucℤ, natAbs, _+ℤ_, _-ℤ_, +ℤ-one}
 use lib.Signed.{ltZ, nonNeg}
-use mir.Syntax.{w64}
+use mir.Syntax.{w8, w64}
 use mir.Val.{Fits, SFits, ofZ, toZ}
 use mir.ValLaws.{toZ-ofZ}
 
@@ -56,3 +56,14 @@ above (pos n) f e =
     let q = toZ-ofZ w64 (pos n) f in
     record { cast = (subst (λ (y : ℤ). T (nonNeg y)) (sym q) tt, subst (Fits w64) (sym (ap natAbs q)) (record { fits = omega arith })); same = ap pos (ap natAbs q) }
 above (negsuc n) f e = let q = rw (toZ-ofZ w64 (negsuc n) f) at e in let z : _≡_ {A = ℕ} 0 1 = cc in absurd (omega arith)
+
+-- a signed byte as a wider number
+wider : (z : ℤ) → SFits w8 z → SFits w64 z
+wider (pos n) f = let h : n < 2 ^ 7 = f .sfits in record { sfits = omega arith }
+wider (negsuc n) f = let h : n < 2 ^ 7 = f .sfits in record { sfits = omega arith }
+
+pub wide-fits : (z : ℤ) → SFits w8 z → SFits w64 (toZ w8 (ofZ w8 z))
+wide-fits z f = subst (SFits w64) (sym (toZ-ofZ w8 z f)) (wider z f)
+
+pub wide-same : (z : ℤ) → SFits w8 z → again (toZ w8 (ofZ w8 z)) ≡ z
+wide-same z f = toZ-ofZ w64 _ (wide-fits z f) ∙ toZ-ofZ w8 z f

@@ -39,7 +39,7 @@ pub deltaBack : ℤ → Delta
 deltaBack (pos n) = Up n
 deltaBack (negsuc n) = Down n
 
-delta-back : (x : Delta) → deltaBack (toℤ x) ≡ x
+pub delta-back : (x : Delta) → deltaBack (toℤ x) ≡ x
 unfolding deltaBack
 delta-back (Up n) = refl
 delta-back (Down n) = refl

@@ -1,7 +1,4 @@
 // Numbers: out of bytes, as a word can hold them, an LCN plus a signed delta, an LCN's byte position.
-mod refusal;
-
-pub use refusal::Refusal;
 ghost use mathlib.Core.Path.{_≡_};
 ghost use Prim.Native.Nat.{_+_, _-_, _*_, _^_, _≤_, min};
 ghost use lib.IntN.{pos, _+ℤ_};
@@ -32,6 +29,12 @@ impl Delta {
         } else {
             Delta::Up(d as u64)
         }
+    }
+
+    pub fn of_byte(d: i8) -> Delta
+        ensures { λ r. ⌜ toℤ r ≡ d ⌝ }
+    {
+        Delta::of(d as i64)
     }
 }
 

@@ -1,8 +1,8 @@
 use borrow.Author.Needs.{needs}
-use Rattle.types.proofs.refusal.Refusal.number.Statement.{statement}
-use Rattle.types.proofs.refusal.Refusal.number.Tie as tie
-use Rattle.types.proofs.refusal.Refusal.number.Reads as reads
-use Rattle.types.proofs.refusal.Refusal.number.Lts as lts
+use Rattle.refusal.proofs.Refusal.number.Statement.{statement}
+use Rattle.refusal.proofs.Refusal.number.Tie as tie
+use Rattle.refusal.proofs.Refusal.number.Reads as reads
+use Rattle.refusal.proofs.Refusal.number.Lts as lts
 
 -- src/refusal.rt:40:31
 enum-told : tie.Need-enum-told

@@ -6,8 +6,11 @@ use lib.ListN.{getD}
 use lib.Dec.{eqb}
 use lib.IntN.{ℤ, pos, natAbs}
 use Rattle.format.specs.Pick.{pick}
-use Rattle.types.specs.declared.refusal.Refusal.{Refusal}
-use Rattle.types.specs.declared.refusal.Refusal.the-variants.{Short, Mark, PerCluster, SectorSize, ClusterSize, MftLcn, RecordInfo, RecordLength, SequenceOffset, SequenceCount, SequenceArray, Torn, Nibble, Cut, NoClusters, RunSize, RunLcn, RunPlace, RunEnd, Target, Unsound, ListLength}
+use Rattle.types.specs.Shown.{toℤ, deltaBack, delta-back}
+use Rattle.refusal.specs.declared.Values.{Values}
+use Rattle.refusal.specs.declared.Values.the-variants as V0
+use Rattle.refusal.specs.declared.Refusal.{Refusal}
+use Rattle.refusal.specs.declared.Refusal.the-variants.{Short, Mark, PerCluster, SectorSize, ClusterSize, MftLcn, RecordInfo, RecordLength, SequenceOffset, SequenceCount, SequenceArray, Torn, Nibble, Cut, NoClusters, RunSize, RunLcn, RunPlace, RunEnd, Target, Unsound, ListLength}
 
 abbrev pub number : Refusal → ℕ
 number Short = 1
@@ -112,3 +115,26 @@ refusal-back (RunEnd at) = refl
 refusal-back Target = refl
 refusal-back Unsound = refl
 refusal-back ListLength = refl
+
+-- the values as the code hands them out
+abbrev pub shownValues : Values → List ℤ
+shownValues V0.None = []
+shownValues (V0.One a) = toℤ a ∷ []
+shownValues (V0.Two a b) = toℤ a ∷ toℤ b ∷ []
+shownValues (V0.Three a b d) = toℤ a ∷ toℤ b ∷ toℤ d ∷ []
+
+pub valuesBack : List ℤ → Values
+valuesBack [] = V0.None
+valuesBack (a ∷ []) = V0.One (deltaBack a)
+valuesBack (a ∷ b ∷ []) = V0.Two (deltaBack a) (deltaBack b)
+valuesBack (a ∷ b ∷ d ∷ rest) = V0.Three (deltaBack a) (deltaBack b) (deltaBack d)
+
+values-back : (x : Values) → valuesBack (shownValues x) ≡ x
+unfolding valuesBack
+values-back V0.None = refl
+values-back (V0.One a) = rw (delta-back a)
+values-back (V0.Two a b) = rw (delta-back a, delta-back b)
+values-back (V0.Three a b d) = rw (delta-back a, delta-back b, delta-back d)
+
+pub values-injective : (x y : Values) → shownValues x ≡ shownValues y → x ≡ y
+values-injective x y e = sym (values-back x) ∙ ap valuesBack e ∙ values-back y

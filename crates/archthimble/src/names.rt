@@ -1,0 +1,39 @@
+// Each refusal's name and what it means, in a sentence.
+use crate::text;
+use refusal::Refusal;
+use text::say;
+
+pub fn explain(x: Refusal) {
+    let n = x.number();
+    text::refused(x);
+    name(n);
+    sentence(n);
+}
+
+fn name(n: u64) {
+    match n {
+        1 => say(b"short boot sector: "),
+        2 => say(b"boot mark: "),
+        3 => say(b"sectors per cluster: "),
+        4 => say(b"sector size: "),
+        5 => say(b"cluster size: "),
+        6 => say(b"MFT LCN: "),
+        7 => say(b"file record size: "),
+        _ => {}
+    }
+}
+
+fn sentence(n: u64) {
+    match n {
+        1 => say(b"a boot sector has 512 bytes, and fewer were there.\n"),
+        2 => say(b"bytes 510 and 511 must be 55 AA in hex, and the two given stand there.\n"),
+        3 => say(
+            b"byte 13 must be a power of two from 1 to 128, or 244 to 255 for 2 to the power 256 - byte.\n",
+        ),
+        4 => say(b"a sector must have 512, 1024, 2048 or 4096 bytes.\n"),
+        5 => say(b"sectors per cluster times sector size must be 512 to 2097152 bytes.\n"),
+        6 => say(b"the MFT can't start at LCN 0.\n"),
+        7 => say(b"the info (given with the cluster size) must be above 0, or -10, -11 or -12.\n"),
+        _ => {}
+    }
+}
