@@ -1,3 +1,5 @@
 pub mod Pick
 pub mod Number
 pub mod Boot
+pub mod Sample
+pub mod BootCases

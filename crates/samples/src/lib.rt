@@ -1,6 +1,6 @@
 // Small disks' parts to try the programs on, each as a definition lists it.
 ghost use mathlib.Core.Path.{_≡_};
-ghost use Rattle.samples.specs.Samples.{bootSample};
+ghost use Rattle.format.specs.Sample.{bootSample};
 
 // A boot sector: 512-byte sectors, 8 to a cluster, MFT at LCN 4, records of 1,024 bytes.
 pub fn boot() -> [u8; 512]

@@ -1,6 +1,6 @@
 use borrow.Author.Needs.{needs}
 use mathlib.Core.Path.{refl}
-use Rattle.samples.specs.Samples.{bootSample}
+use Rattle.format.specs.Sample.{bootSample, changed}
 use Rattle.samples.proofs.boot.Statement.{statement}
 use Rattle.samples.proofs.boot.Tie as tie
 use Rattle.samples.proofs.boot.Reads as reads
@@ -72,7 +72,7 @@ array-write-s-16 c = search needs
 
 -- src/lib.rt:6:1
 returns : tie.Need-returns
-unfolding bootSample
+unfolding bootSample changed
 returns c = refl
 
 pub boot-spec : {M : Type 1} → statement M
