@@ -1,16 +1,13 @@
+-- Both bytes are compared in the definition's order.
 use Rattle.boot_sector.proofs.is_marked.Statement.{statement}
 use borrow.Author.Tests.{eq-eqb, ne-eqb}
 use Rattle.format.specs.Boot.{marked}
 use Rattle.boot_sector.proofs.is_marked.Tie as tie
-use Rattle.boot_sector.proofs.is_marked.Reads as reads
-use Rattle.boot_sector.proofs.is_marked.Lts as lts
 
--- src/lib.rt:165:9
 returns : tie.Need-returns
 unfolding marked
 returns c = rw (ne-eqb _ _ (c .if1 .taken))
 
--- src/lib.rt:161:1
 returns-2 : tie.Need-returns-2
 unfolding marked
 returns-2 c = rw (eq-eqb _ _ (c .if1 .left))

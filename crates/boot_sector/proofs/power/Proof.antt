@@ -1,19 +1,16 @@
+-- A one shifted by at most 12 places loses no bit.
 use borrow.Author.Needs.{needs}
 use mathlib.Core.Path.{refl}
 use lib.Pow.{pow-lt, pow-mono}
 use native.Mathlib.Nat.{one-mul, mod-eq-of-lt}
 use native.Mathlib.Omega.{arith}
-use Prim.Native.Nat.{_*_, _^_, _%_, _<_, _≤_}
+use Prim.Native.Nat.{_^_, _<_, _≤_}
 use Rattle.boot_sector.proofs.power.Statement.{statement}
 use Rattle.boot_sector.proofs.power.Tie as tie
-use Rattle.boot_sector.proofs.power.Reads as reads
-use Rattle.boot_sector.proofs.power.Lts as lts
 
--- src/lib.rt:158:5
 shl-result : tie.Need-shl-result
 shl-result c = search needs
 
--- src/lib.rt:154:1
 returns : tie.Need-returns
 returns c = let h : 2 ^ c .args .k < 2 ^ 64 = pow-lt {j = 64} (omega arith) in let m : 2 ^ c .args .k ≤ 2 ^ 12 = pow-mono {j = 12} (c .pre) in rw (one-mul (2 ^ c .args .k), mod-eq-of-lt h) (refl, m)
 

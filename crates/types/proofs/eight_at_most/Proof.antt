@@ -1,17 +1,14 @@
+-- The definition's test is the code's.
 use Rattle.types.proofs.eight_at_most.Statement.{statement}
 use native.Mathlib.Omega.{arith}
 use Rattle.format.specs.Pick.{yes-is, no-is}
 use mathlib.Core.Path.{refl}
 use borrow.Author.Tests.{le-leb, lt-leb}
 use Rattle.types.proofs.eight_at_most.Tie as tie
-use Rattle.types.proofs.eight_at_most.Reads as reads
-use Rattle.types.proofs.eight_at_most.Lts as lts
 
--- src/lib.rt:113:9
 returns : tie.Need-returns
 returns c = (yes-is _ (le-leb _ _ (c .if1 .taken)), c .if1 .taken)
 
--- src/lib.rt:109:1
 returns-2 : tie.Need-returns-2
 returns-2 c = (no-is _ (lt-leb _ _ (c .if1 .left)) refl, omega arith)
 

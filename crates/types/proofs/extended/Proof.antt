@@ -1,5 +1,6 @@
+-- The top bit is set exactly where the number is over half the largest of n bytes; past eight bytes it never is.
 use borrow.Author.Needs.{needs}
-use Prim.Native.Nat.{_*_, _^_, _≤_, _<_}
+use Prim.Native.Nat.{_*_, _^_, _≤_}
 use borrow.Author.Tests.{lt-ltb}
 use native.Mathlib.Nat.{pow-le-pow-right}
 use native.Mathlib.Omega.{arith}
@@ -8,36 +9,26 @@ use Rattle.format.specs.Pick.{yes-is}
 use Rattle.format.specs.Number.{twos}
 use Rattle.types.proofs.extended.Statement.{statement}
 use Rattle.types.proofs.extended.Tie as tie
-use Rattle.types.proofs.extended.Reads as reads
-use Rattle.types.proofs.extended.Lts as lts
-use Rattle.types.proofs.largest.Reads as largest-reads
 
--- src/lib.rt:150:9
 returns : tie.Need-returns
 unfolding twos
 returns c = let p : 256 ^ 9 ≤ 256 ^ c .before .args .n = pow-le-pow-right (omega arith) {i = 9} {j = c .before .args .n} (omega arith) in yes-is _ (lt-ltb (c .before .args .value * 2) (256 ^ c .before .args .n) (omega (arith, c .before .fits)))
 
--- src/lib.rt:152:9
 largest-requires : tie.Need-largest-requires
 largest-requires c κs = search needs
 
--- src/lib.rt:154:9
 returns-2 : tie.Need-returns-2
 returns-2 c = twos-up _ _ _ (c .before .largest .ensures) (c .if2 .taken)
 
--- src/lib.rt:159:19
 sub-t8 : tie.Need-sub-t8
 sub-t8 c = search needs
 
--- src/lib.rt:159:19
 sub-t9 : tie.Need-sub-t9
 sub-t9 c = search needs
 
--- src/lib.rt:146:1
 returns-3 : tie.Need-returns-3
 returns-3 c = twos-down _ _ _ (c .before .before .largest .ensures) (c .before .if2 .left) (c .if3 .taken)
 
--- src/lib.rt:146:1
 returns-4 : tie.Need-returns-4
 returns-4 c = twos-past _ _ _ (c .before .before .largest .ensures) (c .before .if2 .left) (c .if3 .left)
 

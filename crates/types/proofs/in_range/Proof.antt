@@ -1,23 +1,19 @@
+-- Each return follows the definition's tests in their order.
 use Rattle.types.proofs.in_range.Statement.{statement}
 use mathlib.Core.Path.{refl}
 use borrow.Author.Tests.{lt-ltb, le-ltb}
 use Rattle.format.specs.Pick.{yes-is, no-is}
 use Rattle.format.specs.Number.{between}
 use Rattle.types.proofs.in_range.Tie as tie
-use Rattle.types.proofs.in_range.Reads as reads
-use Rattle.types.proofs.in_range.Lts as lts
 
--- src/lib.rt:241:9
 returns : tie.Need-returns
 unfolding between
 returns c = yes-is _ (lt-ltb _ _ (c .if1 .taken))
 
--- src/lib.rt:244:9
 returns-2 : tie.Need-returns-2
 unfolding between
 returns-2 c = no-is _ (le-ltb _ _ (c .before .if1 .left)) (yes-is _ (lt-ltb _ _ (c .if2 .taken)))
 
--- src/lib.rt:237:1
 returns-3 : tie.Need-returns-3
 unfolding between
 returns-3 c = no-is _ (le-ltb _ _ (c .before .if1 .left)) (no-is _ (le-ltb _ _ (c .if2 .left)) refl)

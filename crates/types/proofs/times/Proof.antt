@@ -1,3 +1,4 @@
+-- The product fits exactly where one factor is at most the largest word divided by the other (Products).
 use borrow.Author.Needs.{needs}
 use native.Mathlib.Omega.{arith}
 use native.Mathlib.Nat.{mul-zero}
@@ -5,26 +6,19 @@ use Rattle.types.proofs.Products.{fits-of-le, over-of-lt}
 use Rattle.format.proofs.Numbers.{within-is, within-out}
 use Rattle.types.proofs.times.Statement.{statement}
 use Rattle.types.proofs.times.Tie as tie
-use Rattle.types.proofs.times.Reads as reads
-use Rattle.types.proofs.times.Lts as lts
 
--- src/lib.rt:80:9
 returns : tie.Need-returns
 returns c = rw (c .if1 .taken, mul-zero (c .before .args .a)) (within-is 0 (omega arith))
 
--- src/lib.rt:82:13
 div-if2 : tie.Need-div-if2
 div-if2 c = search needs
 
--- src/lib.rt:83:18
 mul-t6 : tie.Need-mul-t6
 mul-t6 c = record { fits = fits-of-le _ _ (omega (arith, c .before .if1 .left)) (c .if2 .taken) }
 
--- src/lib.rt:76:1
 returns-2 : tie.Need-returns-2
 returns-2 c = within-is _ (fits-of-le _ _ (omega (arith, c .before .if1 .left)) (c .if2 .taken))
 
--- src/lib.rt:76:1
 returns-3 : tie.Need-returns-3
 returns-3 c = within-out _ (over-of-lt _ _ (omega (arith, c .before .if1 .left)) (c .if2 .left))
 

@@ -1,30 +1,23 @@
+-- A part of the twenty blanks has as many as asked, since at most twenty are.
 use borrow.Author.Needs.{needs}
 use native.Mathlib.Omega.{arith}
 use lib.Seq.{length-take-le}
 use mathlib.Core.Path.{sym}
 use Rattle.archthimble.proofs.table.blanks.Statement.{statement}
 use Rattle.archthimble.proofs.table.blanks.Tie as tie
-use Rattle.archthimble.proofs.table.blanks.Reads as reads
-use Rattle.archthimble.proofs.table.blanks.Lts as lts
-use Rattle.archthimble.proofs.text.say.Reads as say-reads
 
--- src/table.rt:24:9
 slice-aggregate-blank : tie.Need-slice-aggregate-blank
 slice-aggregate-blank c = search needs
 
--- src/table.rt:27:13
 slice-aggregate-say : tie.Need-slice-aggregate-say
 slice-aggregate-say c = sym (length-take-le _ _ (omega arith))
 
--- src/table.rt:27:9
 say-requires : tie.Need-say-requires
 say-requires c κs = search needs
 
--- src/table.rt:23:1
 returns : tie.Need-returns
 returns c = search needs
 
--- src/table.rt:23:1
 returns-2 : tie.Need-returns-2
 returns-2 c = search needs
 

@@ -1,11 +1,9 @@
+-- The index is below both lengths where they are read.
 use borrow.Author.Needs.{needs}
 use Prim.Native.Nat.{_-_}
 use lib.ListN.{length}
 use Rattle.cases.proofs.boot.sizes.Statement.{statement}
 use Rattle.cases.proofs.boot.sizes.Tie as tie
-use Rattle.cases.proofs.boot.sizes.Reads as reads
-use Rattle.cases.proofs.boot.sizes.Lts as lts
-use Rattle.cases.proofs.boot.sized.Reads as sized-reads
 
 abbrev Inv-loop : tie.InvT-loop
 Inv-loop name per-cluster low high i₀ i = Unit {0}
@@ -13,35 +11,27 @@ Inv-loop name per-cluster low high i₀ i = Unit {0}
 abbrev μ-loop : tie.MeasureT-loop
 μ-loop name per-cluster low high i₀ i = length low - i
 
--- src/boot.rt:126:5
 loop-holds : tie.Need-loop-holds Inv-loop μ-loop
 loop-holds c = search needs
 
--- src/boot.rt:128:38
 shared-slice-read-sized : tie.Need-shared-slice-read-sized Inv-loop μ-loop
 shared-slice-read-sized c = search needs
 
--- src/boot.rt:128:46
 shared-slice-read-sized-2 : tie.Need-shared-slice-read-sized-2 Inv-loop μ-loop
 shared-slice-read-sized-2 c = search needs
 
--- src/boot.rt:128:13
 sized-requires : tie.Need-sized-requires Inv-loop μ-loop
 sized-requires c κs = search needs
 
--- src/boot.rt:130:13
 add-i : tie.Need-add-i Inv-loop μ-loop
 add-i c = search needs
 
--- src/boot.rt:126:5
 loop-less : tie.Need-loop-less Inv-loop μ-loop
 loop-less c = search needs
 
--- src/boot.rt:126:5
 loop-again : tie.Need-loop-again Inv-loop μ-loop
 loop-again c = search needs
 
--- src/boot.rt:124:1
 returns : tie.Need-returns Inv-loop μ-loop
 returns c = search needs
 

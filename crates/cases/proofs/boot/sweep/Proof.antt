@@ -1,13 +1,9 @@
+-- The index is below the length at each turn.
 use borrow.Author.Needs.{needs}
 use Prim.Native.Nat.{_-_}
 use lib.ListN.{length}
 use Rattle.cases.proofs.boot.sweep.Statement.{statement}
 use Rattle.cases.proofs.boot.sweep.Tie as tie
-use Rattle.cases.proofs.boot.sweep.Reads as reads
-use Rattle.cases.proofs.boot.sweep.Lts as lts
-use Rattle.cases.proofs.boot.swept.Reads as swept-reads
-use Rattle.types.proofs.extended.Reads as extended-reads
-use Rattle.types.proofs.wide.Reads as wide-reads
 
 abbrev Inv-loop : tie.InvT-loop
 Inv-loop name at width values i₀ i = Unit {0}
@@ -15,39 +11,30 @@ Inv-loop name at width values i₀ i = Unit {0}
 abbrev μ-loop : tie.MeasureT-loop
 μ-loop name at width values i₀ i = length values - i
 
--- src/boot.rt:93:5
 loop-holds : tie.Need-loop-holds Inv-loop μ-loop
 loop-holds c = search needs
 
--- src/boot.rt:94:21
 shared-slice-read-value : tie.Need-shared-slice-read-value Inv-loop μ-loop
 shared-slice-read-value c = search needs
 
--- src/boot.rt:95:48
 wide-requires : tie.Need-wide-requires Inv-loop μ-loop
 wide-requires c κs = search needs
 
--- src/boot.rt:95:32
 extended-requires : tie.Need-extended-requires Inv-loop μ-loop
 extended-requires c κs = search needs
 
--- src/boot.rt:95:9
 swept-requires : tie.Need-swept-requires Inv-loop μ-loop
 swept-requires c κs = search needs
 
--- src/boot.rt:96:13
 add-i : tie.Need-add-i Inv-loop μ-loop
 add-i c = search needs
 
--- src/boot.rt:93:5
 loop-less : tie.Need-loop-less Inv-loop μ-loop
 loop-less c = search needs
 
--- src/boot.rt:93:5
 loop-again : tie.Need-loop-again Inv-loop μ-loop
 loop-again c = search needs
 
--- src/boot.rt:91:1
 returns : tie.Need-returns Inv-loop μ-loop
 returns c = search needs
 

@@ -1,30 +1,23 @@
+-- A signed number's direction and size. The machine's sum and negation are exact because the number fits (Signs).
 use Rattle.types.proofs.Delta.of.Statement.{statement}
 use Rattle.types.proofs.Signs.{below, above}
 use Rattle.types.proofs.Delta.of.Tie as tie
-use Rattle.types.proofs.Delta.of.Reads as reads
-use Rattle.types.proofs.Delta.of.Lts as lts
 
--- src/lib.rt:31:28
 add-t4 : tie.Need-add-t4
 add-t4 c = below (c .before .args .d) (c .before .fits .d) (c .if1 .taken) .one
 
--- src/lib.rt:31:26
 sub-t5 : tie.Need-sub-t5
 sub-t5 c = below (c .before .args .d) (c .before .fits .d) (c .if1 .taken) .turned
 
--- src/lib.rt:31:25
 cast-t6 : tie.Need-cast-t6
 cast-t6 c = below (c .before .args .d) (c .before .fits .d) (c .if1 .taken) .cast
 
--- src/lib.rt:33:23
 cast-t7 : tie.Need-cast-t7
 cast-t7 c = above (c .before .args .d) (c .before .fits .d) (c .if1 .left) .cast
 
--- src/lib.rt:27:5
 returns : tie.Need-returns
 returns c = below (c .before .args .d) (c .before .fits .d) (c .if1 .taken) .same
 
--- src/lib.rt:27:5
 returns-2 : tie.Need-returns-2
 returns-2 c = above (c .before .args .d) (c .before .fits .d) (c .if1 .left) .same
 

@@ -1,52 +1,39 @@
+-- Each arm is a sum or a difference of naturals; its test says on which side of the word's limits it lies.
 use borrow.Author.Needs.{needs}
-use Rattle.format.specs.Number.Word.{word}
-use Rattle.format.specs.Number.{Word}
 use Prim.Native.Nat.{suc, _+_, _-_}
-use mathlib.Core.Path.{_≡_, refl, sym, ap, _∙_}
+use mathlib.Core.Path.{_≡_}
 use native.Mathlib.Omega.{arith}
 use Rattle.format.proofs.Numbers.{within-is, within-out, sub-lt, sub-le}
 use Rattle.types.proofs.Lcn.moved.Statement.{statement}
 use Rattle.types.proofs.Lcn.moved.Tie as tie
-use Rattle.types.proofs.Lcn.moved.Reads as reads
-use Rattle.types.proofs.Lcn.moved.Lts as lts
 
--- src/lib.rt:51:23
 enum-known-delta : tie.Need-enum-known-delta
 enum-known-delta c = search needs
 
--- src/lib.rt:52:25
 sub-if1 : tie.Need-sub-if1
 sub-if1 c = search needs
 
--- src/lib.rt:53:30
 add-t10 : tie.Need-add-t10
 add-t10 c = search needs
 
--- src/lib.rt:58:25
 enum-known-delta-2 : tie.Need-enum-known-delta-2
 enum-known-delta-2 c = search needs
 
--- src/lib.rt:60:30
 sub-t13 : tie.Need-sub-t13
 sub-t13 c = search needs
 
--- src/lib.rt:60:30
 sub-t14 : tie.Need-sub-t14
 sub-t14 c = search needs
 
--- src/lib.rt:46:5
 returns : tie.Need-returns
 returns c = rw (c .before .before .delta .given .1) (within-is (c .before .before .before .before .args .self .0 + c .before .before .delta .given .0 .0) (omega arith))
 
--- src/lib.rt:46:5
 returns-2 : tie.Need-returns-2
 returns-2 c = rw (c .before .before .delta .given .1) (within-out (c .before .before .before .before .args .self .0 + c .before .before .delta .given .0 .0) (omega arith))
 
--- src/lib.rt:46:5
 returns-3 : tie.Need-returns-3
 returns-3 c = let e : c .before .before .before .before .args .self .0 - c .before .before .delta2 .given .0 .0 - 1 ≡ c .before .before .before .before .args .self .0 - suc (c .before .before .delta2 .given .0 .0) = omega arith in rw (c .before .before .delta2 .given .1, sub-le (c .before .before .before .before .args .self .0) (suc (c .before .before .delta2 .given .0 .0)) (omega arith), e) (within-is (c .before .before .before .before .args .self .0 - suc (c .before .before .delta2 .given .0 .0)) (search needs))
 
--- src/lib.rt:46:5
 returns-4 : tie.Need-returns-4
 returns-4 c = rw (c .before .before .delta2 .given .1, sub-lt (c .before .before .before .before .args .self .0) (suc (c .before .before .delta2 .given .0 .0)) (omega arith))
 

@@ -1,3 +1,4 @@
+-- The delta made of the i64 stands for it, so `moved` adds the same number.
 use borrow.Author.Needs.{needs}
 use mir.ValLaws.{toZ-ofZ}
 use mir.Syntax.{w64}
@@ -6,20 +7,13 @@ use lib.IntN.{ℤ, pos, _+ℤ_}
 use mathlib.Core.Path.{_∙_, ap}
 use Rattle.types.proofs.Lcn.plus.Statement.{statement}
 use Rattle.types.proofs.Lcn.plus.Tie as tie
-use Rattle.types.proofs.Lcn.plus.Reads as reads
-use Rattle.types.proofs.Lcn.plus.Lts as lts
-use Rattle.types.proofs.Delta.of.Reads as of-reads
-use Rattle.types.proofs.Lcn.moved.Reads as moved-reads
 
--- src/lib.rt:43:20
 of-requires : tie.Need-of-requires
 of-requires c κs = search needs
 
--- src/lib.rt:43:9
 moved-requires : tie.Need-moved-requires
 moved-requires c κs = search needs
 
--- src/lib.rt:40:5
 returns : tie.Need-returns
 returns c = c .moved .ensures ∙ ap (λ (z : ℤ). withinℤ (pos (c .before .before .args .self .0) +ℤ z)) (c .before .of .ensures ∙ toZ-ofZ w64 (c .before .before .args .delta) (c .before .before .fits .delta))
 
