@@ -74,7 +74,7 @@ unfoldable pub recordSizeOf : ℤ → ℕ → Word
 recordSizeOf (pos n) cluster = pick (eqb n 0) outside (within (n * cluster))
 recordSizeOf (negsuc k) cluster = pick (between 10 12 (suc k)) (word (2 ^ suc k)) outside
 
--- with a cluster size: 6, then 7, then all that the sector says
+-- with the size of a record, where there is one: 7, or all that the sector says
 abbrev pub recorded : List ℕ → ℕ → Word → Boot
 recorded s cluster outside = refused 7 (recordInfo s ∷ pos cluster ∷ [])
 recorded s cluster (word size) =
@@ -89,12 +89,13 @@ recorded s cluster (word size) =
       serial = serialNumber s;
     })
 
+-- with a cluster size: 6, then 7
 unfoldable pub clustered : List ℕ → ℕ → Boot
 clustered s cluster =
     pick (eqb (mftLcn s) 0) (refused 6 [])
     (recorded s cluster (recordSizeOf (recordInfo s) cluster))
 
--- with n sectors per cluster: 4, 5, then the rest
+-- with the sectors per cluster, where there are some: 3, 4, 5, then the rest
 abbrev pub sectored : List ℕ → Word → Boot
 sectored s outside = refused 3 (pos (perCluster s) ∷ [])
 sectored s (word n) =

@@ -2,7 +2,8 @@
 -- bytes changed, and what is read.
 use Prim.Native.Nat.{ℕ}
 use mathlib.Core.Path.{_≡_, refl}
-use mathlib.Core.List.{List, [], _∷_}
+use mathlib.Core.List.{List, [], _∷_, _++_}
+use lib.ListN.{take}
 use lib.IntN.{ℤ, pos, negsuc}
 use Rattle.format.specs.Pick.{pick}
 use Rattle.format.specs.Number.{little, twos, unsigned, within, isPower, powerOfTwo, between, powerBetween}
@@ -12,9 +13,11 @@ use Rattle.format.specs.Sample.{Change, changed, bootSample}
 use Rattle.format.specs.Sample.Change.{at}
 
 pub data Case : Type 0 where
+  given : List ℕ → Boot → Case
   case : List Change → Boot → Case
 
 abbrev pub Holds : Case → Type 0
+Holds (given s answer) = boot s ≡ answer
 Holds (case cs answer) = boot (changed bootSample cs) ≡ answer
 
 abbrev pub AllHold : List Case → Type 0
@@ -28,7 +31,13 @@ sized sector cluster size =
 
 abbrev pub table : List Case
 table =
-    case [] (sized 512 4096 1024)
+    given [] (refused 1 [])
+    ∷ given (take 511 bootSample) (refused 1 [])
+    ∷ given bootSample (sized 512 4096 1024)
+    ∷ given (bootSample ++ (0xff ∷ [])) (sized 512 4096 1024)
+    -- the mark
+    ∷ case (at 510 0x54 ∷ []) (refused 2 (pos 0x54 ∷ pos 0xaa ∷ []))
+    ∷ case (at 511 0xab ∷ []) (refused 2 (pos 0x55 ∷ pos 0xab ∷ []))
     -- sectors per cluster
     ∷ case (at 13 0 ∷ []) (refused 3 (pos 0 ∷ []))
     ∷ case (at 13 1 ∷ []) (sized 512 512 1024)
@@ -40,13 +49,19 @@ table =
     ∷ case (at 13 255 ∷ []) (sized 512 1024 1024)
     -- sector and cluster size
     ∷ case (at 12 1 ∷ []) (refused 4 (pos 256 ∷ []))
+    ∷ case (at 11 1 ∷ []) (refused 4 (pos 513 ∷ []))
+    ∷ case (at 12 12 ∷ []) (refused 4 (pos 3072 ∷ []))
     ∷ case (at 12 16 ∷ []) (sized 4096 32768 1024)
     ∷ case (at 12 32 ∷ []) (refused 4 (pos 8192 ∷ []))
     ∷ case (at 13 244 ∷ at 12 4 ∷ []) (refused 5 (pos 4194304 ∷ []))
     ∷ case (at 13 245 ∷ at 12 4 ∷ []) (sized 1024 2097152 1024)
     -- the MFT's LCN, the record size info
     ∷ case (at 48 0 ∷ []) (refused 6 [])
+    ∷ case (at 48 0 ∷ at 55 1 ∷ []) (geometry (record { sector = 512; cluster = 4096; sectors = 204799; mft = 72057594037927936; mirror = 12799; recordSize = 1024; indexInfo = pos 1; serial = 313249263 }))
+    ∷ case (at 68 255 ∷ []) (geometry (record { sector = 512; cluster = 4096; sectors = 204799; mft = 4; mirror = 12799; recordSize = 1024; indexInfo = negsuc 0; serial = 313249263 }))
     ∷ case (at 64 1 ∷ []) (sized 512 4096 4096)
+    ∷ case (at 64 2 ∷ []) (sized 512 4096 8192)
+    ∷ case (at 64 128 ∷ []) (refused 7 (negsuc 127 ∷ pos 4096 ∷ []))
     ∷ case (at 64 0 ∷ []) (refused 7 (pos 0 ∷ pos 4096 ∷ []))
     ∷ case (at 64 247 ∷ []) (refused 7 (negsuc 8 ∷ pos 4096 ∷ []))
     ∷ case (at 64 245 ∷ []) (sized 512 4096 2048)
@@ -62,4 +77,4 @@ table =
 
 pub cases : AllHold table
 unfolding pick little twos unsigned within isPower powerOfTwo between powerBetween boot marked sectorsOf recordSizeOf clustered changed bootSample
-cases = (refl, (refl, (refl, (refl, (refl, (refl, (refl, (refl, (refl, (refl, (refl, (refl, (refl, (refl, (refl, (refl, (refl, (refl, (refl, (refl, (refl, (refl, (refl, (refl, (refl, (refl, tt))))))))))))))))))))))))))
+cases = (refl, (refl, (refl, (refl, (refl, (refl, (refl, (refl, (refl, (refl, (refl, (refl, (refl, (refl, (refl, (refl, (refl, (refl, (refl, (refl, (refl, (refl, (refl, (refl, (refl, (refl, (refl, (refl, (refl, (refl, (refl, (refl, (refl, (refl, (refl, (refl, (refl, tt)))))))))))))))))))))))))))))))))))))

@@ -12,7 +12,8 @@ unfoldable pub little : List ℕ → ℕ
 little [] = 0
 little (b ∷ bs) = b + 256 * little bs
 
--- two's complement in n bytes: the number, or the number less 256 to the n where its top bit is set
+-- two's complement of a number of n bytes: the number, or the number less 256 to the n where its top bit is set (a number that
+-- n bytes can't hold also gets 256 to the n taken off)
 unfoldable pub twos : ℕ → ℕ → ℤ
 twos n x = pick (ltb (x * 2) (256 ^ n)) (pos x) (pos x -ℤ pos (256 ^ n))
 
