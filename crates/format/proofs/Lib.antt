@@ -1,3 +1,4 @@
 pub mod Numbers
 pub mod Powers
 pub mod Boot
+pub mod Record

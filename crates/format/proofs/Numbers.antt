@@ -4,7 +4,7 @@ use Prim.Native.Nat.{ℕ, zero, suc, _+_, _-_, _*_, _/_, _^_, _<_, _≤_}
 use mathlib.Core.Path.{_≡_, refl, sym, ap, _∙_}
 use mathlib.Core.List.{List, [], _∷_}
 use native.Mathlib.Omega.{arith}
-use native.Mathlib.Nat.{pow-suc}
+use native.Mathlib.Numerals.{add-one}
 use borrow.Author.Tests.{lt-ltb, le-ltb}
 use lib.ListN.{length, getD, take, drop}
 use lib.Seq.{drop-cons}
@@ -47,3 +47,10 @@ within-out n h = sym (pick-no _ _ (le-ltb n (2 ^ 64) h))
 pub little-step : (s : List ℕ) (j m : ℕ) → j < length s → little (take (suc m) (drop j s)) ≡ getD s j 0 + 256 * little (take m (drop (suc j) s))
 unfolding little
 little-step s j m h = rw (drop-cons s j 0 h)
+
+pub unsigned-two : (s : List ℕ) (at : ℕ) → at + 2 ≤ length s → unsigned s at 2 ≡ getD s at 0 + 256 * getD s (at + 1) 0
+unfolding unsigned little
+unsigned-two s at h =
+    let a : little (take 2 (drop at s)) ≡ getD s at 0 + 256 * little (take 1 (drop (suc at) s)) = little-step s at 1 (omega arith) in
+    let b : little (take 1 (drop (suc at) s)) ≡ getD s (suc at) 0 + 256 * little (take 0 (drop (suc (suc at)) s)) = little-step s (suc at) 0 (omega arith) in
+    rw (add-one at) (omega (arith, a, b))

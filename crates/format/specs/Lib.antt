@@ -3,3 +3,4 @@ pub mod Number
 pub mod Boot
 pub mod Sample
 pub mod BootCases
+pub mod Record
