@@ -1,6 +1,8 @@
 // archthimble: what a disk's parts say, by the proved library.
 mod boot;
+mod files;
 mod names;
+mod records;
 mod table;
 mod text;
 
@@ -10,6 +12,9 @@ fn usage() {
     say(b"archthimble                 reads a boot sector that is built in\n");
     say(
         b"archthimble boot FILE       the geometry of a boot sector, or of a disk image's first 512 bytes\n",
+    );
+    say(
+        b"archthimble record FILE     repairs a copy of a file record or index record, and says what was found\n",
     );
     say(b"archthimble help            this\n");
 }
@@ -21,13 +26,27 @@ fn unknown(word: &[u8]) {
     usage();
 }
 
+// Whether there is just one word after the command; otherwise it says what to type.
+fn one_file(words: usize) -> bool {
+    if words == 3 {
+        return true;
+    }
+    say(b"That takes one file. Type one of:\n");
+    usage();
+    false
+}
+
 fn command(word: &[u8], words: usize) {
     if check::same(word, b"boot") {
-        if words == 3 {
+        if one_file(words) {
             boot::file();
-            return;
         }
-        say(b"boot takes one file. Type: archthimble boot FILE\n");
+        return;
+    }
+    if check::same(word, b"record") {
+        if one_file(words) {
+            records::file();
+        }
         return;
     }
     if check::same(word, b"help") {

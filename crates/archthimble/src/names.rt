@@ -19,11 +19,24 @@ fn name(n: u64) {
         5 => say(b"cluster size: "),
         6 => say(b"MFT LCN: "),
         7 => say(b"file record size: "),
+        8 => say(b"record length: "),
+        9 => say(b"sequence number: "),
+        10 => say(b"sequence count: "),
+        11 => say(b"sequence array: "),
+        12 => say(b"torn record: "),
         _ => {}
     }
 }
 
 fn sentence(n: u64) {
+    if n <= 7 {
+        of_boot(n);
+        return;
+    }
+    of_record(n);
+}
+
+fn of_boot(n: u64) {
     match n {
         1 => say(b"a boot sector has 512 bytes, and fewer were there.\n"),
         2 => say(b"bytes 510 and 511 must be 55 AA in hex, and the two given stand there.\n"),
@@ -34,6 +47,21 @@ fn sentence(n: u64) {
         5 => say(b"sectors per cluster times sector size must be 512 to 2097152 bytes.\n"),
         6 => say(b"the MFT can't start at LCN 0.\n"),
         7 => say(b"the info (given with the cluster size) must be above 0, or -10, -11 or -12.\n"),
+        _ => {}
+    }
+}
+
+fn of_record(n: u64) {
+    match n {
+        8 => say(b"a record must have 8 to 4096 bytes.\n"),
+        9 => say(b"the offset at 4 must leave room for two bytes inside the record.\n"),
+        10 => say(b"the count at 6 must be above 0: the number itself counts.\n"),
+        11 => say(
+            b"the number with its entries, or the sectors they stand for, reach past the record.\n",
+        ),
+        12 => say(
+            b"the sector given (from 0) ends in the two bytes given, not in the sequence number.\n",
+        ),
         _ => {}
     }
 }

@@ -27,3 +27,10 @@ fn blanks(used: usize) {
         say(&blank[..n]);
     }
 }
+
+// A name, a number in its column, and what follows it.
+pub fn row(name: &[u8], n: u64, unit: &[u8]) {
+    say(name);
+    aligned(n);
+    say(unit);
+}

@@ -26,8 +26,13 @@ pub fn signed(d: Delta) {
     }
 }
 
-// The number of a refusal, and its values.
 pub fn refused(x: Refusal) {
+    numbered(x);
+    say(b"\n");
+}
+
+// The number of a refusal, and its values.
+pub fn numbered(x: Refusal) {
     item(b"refused", Delta::Up(x.number()));
     match x.values() {
         Values::None => {}
@@ -42,7 +47,6 @@ pub fn refused(x: Refusal) {
             item(b",", c);
         }
     }
-    say(b"\n");
 }
 
 // A number with what stands before it.

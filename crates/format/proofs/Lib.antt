@@ -2,3 +2,4 @@ pub mod Numbers
 pub mod Powers
 pub mod Boot
 pub mod Record
+pub mod Repaired

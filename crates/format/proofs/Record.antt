@@ -12,16 +12,16 @@ use Rattle.format.specs.Record.{Repair, Sector, mend, mismatch, sectors,
 use Rattle.format.specs.Record.Repair.{repaired}
 use Rattle.format.specs.Record.Sector.{mended, torn}
 
-module _ (n m offset lo hi k : ℕ) (s : List ℕ) where
-  pub sectors-none : n ≡ 0 → sectors n offset lo hi k s ≡ repaired s
+module _ (n m offset lo hi k : ℕ) (lent s : List ℕ) where
+  pub sectors-none : n ≡ 0 → sectors n offset lo hi k lent s ≡ repaired s
   unfolding sectors
   sectors-none e = rw e
 
-  pub sectors-more : (t : List ℕ) → n ≡ suc m → mend offset lo hi k s ≡ mended t → sectors n offset lo hi k s ≡ sectors m offset lo hi (k + 1) t
+  pub sectors-more : (t : List ℕ) → n ≡ suc m → mend offset lo hi k s s ≡ mended t → sectors n offset lo hi k lent s ≡ sectors m offset lo hi (k + 1) lent t
   unfolding sectors
   sectors-more t e h = rw (e, h)
 
-  pub sectors-torn : (a b : ℕ) (t : List ℕ) → n ≡ suc m → mend offset lo hi k s ≡ torn a b t → sectors n offset lo hi k s ≡ mismatch k a b t
+  pub sectors-torn : (a b : ℕ) (t : List ℕ) → n ≡ suc m → mend offset lo hi k s s ≡ torn a b t → sectors n offset lo hi k lent s ≡ mismatch k a b lent t
   unfolding sectors
   sectors-torn a b t e h = rw (e, h)
 

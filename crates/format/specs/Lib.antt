@@ -4,3 +4,4 @@ pub mod Boot
 pub mod Sample
 pub mod BootCases
 pub mod Record
+pub mod RecordCases

@@ -39,36 +39,36 @@ endAt k = 510 + 512 * k
 abbrev pub entryAt : ℕ → ℕ → ℕ
 entryAt offset k = offset + 2 + 2 * k
 
--- sector k's end, replaced by its entry as it stands
-unfoldable pub ended : ℕ → ℕ → List ℕ → List ℕ
-ended offset k s = set (set s (endAt k) (getD s (entryAt offset k) 0)) (endAt k + 1) (getD s (entryAt offset k + 1) 0)
+-- sector k's end in s, replaced by its entry as it stands in `from`
+unfoldable pub ended : ℕ → ℕ → List ℕ → List ℕ → List ℕ
+ended offset k from s = set (set s (endAt k) (getD from (entryAt offset k) 0)) (endAt k + 1) (getD from (entryAt offset k + 1) 0)
 
--- one sector: mended, or the two bytes that were found and the record as it stands
+-- one sector: mended by the entry of `from`, or the two bytes that were found and the record as it stands
 pub data Sector : Type 0 where
   mended : List ℕ → Sector
   torn : ℕ → ℕ → List ℕ → Sector
 
-unfoldable pub mend : ℕ → ℕ → ℕ → ℕ → List ℕ → Sector
-mend offset lo hi k s =
-    pick (eqb (getD s (endAt k) 0) lo && eqb (getD s (endAt k + 1) 0) hi) (mended (ended offset k s))
+unfoldable pub mend : ℕ → ℕ → ℕ → ℕ → List ℕ → List ℕ → Sector
+mend offset lo hi k from s =
+    pick (eqb (getD s (endAt k) 0) lo && eqb (getD s (endAt k + 1) 0) hi) (mended (ended offset k from s))
     (torn (getD s (endAt k) 0) (getD s (endAt k + 1) 0) s)
 
--- The mismatch rule: what a wrong end at k gives and leaves, of the record as it stands there.
-unfoldable pub mismatch : ℕ → ℕ → ℕ → List ℕ → Repair
-mismatch k a b s = refused 12 (pos k ∷ pos a ∷ pos b ∷ []) s
+-- The mismatch rule: what a wrong end at k gives, and what it leaves, of the record as it was lent and as it stands.
+unfoldable pub mismatch : ℕ → ℕ → ℕ → List ℕ → List ℕ → Repair
+mismatch k a b lent s = refused 12 (pos k ∷ pos a ∷ pos b ∷ []) s
 
--- n sectors, from k on
-abbrev pub after : Sector → ℕ → (List ℕ → Repair) → Repair
-after (mended s) k rest = rest s
-after (torn a b s) k rest = mismatch k a b s
+-- n sectors, from k on, of a lent record as it stands
+abbrev pub after : Sector → ℕ → List ℕ → (List ℕ → Repair) → Repair
+after (mended s) k lent rest = rest s
+after (torn a b s) k lent rest = mismatch k a b lent s
 
-unfoldable pub sectors : ℕ → ℕ → ℕ → ℕ → ℕ → List ℕ → Repair
-sectors zero offset lo hi k s = repaired s
-sectors (suc n) offset lo hi k s = after (mend offset lo hi k s) k (sectors n offset lo hi (k + 1))
+unfoldable pub sectors : ℕ → ℕ → ℕ → ℕ → ℕ → List ℕ → List ℕ → Repair
+sectors zero offset lo hi k lent s = repaired s
+sectors (suc n) offset lo hi k lent s = after (mend offset lo hi k s s) k lent (sectors n offset lo hi (k + 1) lent)
 
 -- the sequence number, copied from the record as it was lent
 abbrev pub fromNumber : ℕ → ℕ → List ℕ → Repair
-fromNumber offset count s = sectors (count - 1) offset (getD s offset 0) (getD s (offset + 1) 0) 0 s
+fromNumber offset count s = sectors (count - 1) offset (getD s offset 0) (getD s (offset + 1) 0) 0 s s
 
 -- the array or the sectors reach past the record
 unfoldable pub reachesPast : ℕ → ℕ → ℕ → Bool

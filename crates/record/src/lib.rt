@@ -44,7 +44,7 @@ fn reaches_past(len: usize, offset: usize, count: usize) -> bool
 // The end of sector k, against the sequence number.
 fn mend_sector(lent: &mut [u8], offset: usize, lo: u8, hi: u8, k: usize) -> Mended
     requires { ⌜ (offset + 4 + 2 * k ≤ length (now lent)) × (512 + 512 * k ≤ length (now lent)) ⌝ }
-    ensures { λ r. ⌜ ofSector r (now (lent .exit)) ≡ mend offset lo hi k (now (lent .entry)) ⌝ }
+    ensures { λ r. ⌜ ofSector r (now (lent .exit)) ≡ mend offset lo hi k (now (lent .entry)) (now (lent .entry)) ⌝ }
 {
     let end = 510 + 512 * k;
     let a = lent[end];
@@ -65,7 +65,7 @@ fn mend_sector(lent: &mut [u8], offset: usize, lo: u8, hi: u8, k: usize) -> Mend
 
 fn mend_all(lent: &mut [u8], offset: usize, lo: u8, hi: u8, n: usize) -> Repaired
     requires { ⌜ (offset + 2 + 2 * n ≤ length (now lent)) × (512 * n ≤ length (now lent)) ⌝ }
-    ensures { λ r. ⌜ outcome r (now (lent .exit)) ≡ sectors n offset lo hi 0 (now (lent .entry)) ⌝ }
+    ensures { λ r. ⌜ outcome r (now (lent .exit)) ≡ sectors n offset lo hi 0 (now (lent .entry)) (now (lent .entry)) ⌝ }
 {
     let mut k: usize = 0;
     while k < n {

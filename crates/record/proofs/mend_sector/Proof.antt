@@ -1,3 +1,4 @@
+-- The two comparisons are the definition's test; the entry is read whole before the end is written.
 use borrow.Author.Needs.{needs}
 use lib.ListN.{length-set}
 use native.Mathlib.Omega.{arith}
@@ -7,80 +8,60 @@ use Rattle.format.specs.Pick.{yes-is, no-is}
 use Rattle.format.specs.Record.{mend, ended}
 use Rattle.record.proofs.mend_sector.Statement.{statement}
 use Rattle.record.proofs.mend_sector.Tie as tie
-use Rattle.record.proofs.mend_sector.Reads as reads
-use Rattle.record.proofs.mend_sector.Lts as lts
 
--- src/lib.rt:49:21
 mul-end : tie.Need-mul-end
 mul-end c = search needs
 
--- src/lib.rt:49:15
 add-end : tie.Need-add-end
 add-end c = search needs
 
--- src/lib.rt:50:13
 slice-read-a : tie.Need-slice-read-a
 slice-read-a c = search needs
 
--- src/lib.rt:51:18
 add-b : tie.Need-add-b
 add-b c = search needs
 
--- src/lib.rt:51:13
 slice-read-b : tie.Need-slice-read-b
 slice-read-b c = search needs
 
--- src/lib.rt:53:9
 returns : tie.Need-returns
 unfolding mend
 returns c = no-is _ (rw (ne-eqb _ _ (c .if1 .taken))) refl
 
--- src/lib.rt:56:9
 returns-2 : tie.Need-returns-2
 unfolding mend
 returns-2 c = no-is _ (rw (eq-eqb _ _ (c .before .if1 .left), ne-eqb _ _ (c .if2 .taken))) refl
 
--- src/lib.rt:58:17
 add-entry : tie.Need-add-entry
 add-entry c = search needs
 
--- src/lib.rt:58:30
 mul-entry : tie.Need-mul-entry
 mul-entry c = search needs
 
--- src/lib.rt:58:17
 add-entry-2 : tie.Need-add-entry-2
 add-entry-2 c = search needs
 
--- src/lib.rt:59:13
 slice-read-x : tie.Need-slice-read-x
 slice-read-x c = search needs
 
--- src/lib.rt:60:18
 add-y : tie.Need-add-y
 add-y c = search needs
 
--- src/lib.rt:60:13
 slice-read-y : tie.Need-slice-read-y
 slice-read-y c = search needs
 
--- src/lib.rt:61:5
 slice-write-lent : tie.Need-slice-write-lent
 slice-write-lent c = search needs
 
--- src/lib.rt:62:10
 add-lent : tie.Need-add-lent
 add-lent c = search needs
 
--- src/lib.rt:62:5
 slice-write-lent-2 : tie.Need-slice-write-lent-2
 slice-write-lent-2 c = simp length-set (omega arith)
 
--- src/lib.rt:45:1
 same-length : tie.Need-same-length
 same-length c = search needs
 
--- src/lib.rt:45:1
 returns-3 : tie.Need-returns-3
 unfolding mend ended
 returns-3 c = yes-is _ (rw (eq-eqb _ _ (c .before .before .before .if1 .left), eq-eqb _ _ (c .before .before .if2 .left)))

@@ -1,3 +1,4 @@
+-- The definition's two tests in their order; without a count there are no sectors to reach past.
 use borrow.Author.Needs.{needs}
 use Prim.Native.Nat.{_*_, _-_}
 use native.Mathlib.Omega.{arith}
@@ -7,36 +8,27 @@ use Rattle.format.specs.Pick.{yes-is, no-is}
 use Rattle.format.specs.Record.{reachesPast}
 use Rattle.record.proofs.reaches_past.Statement.{statement}
 use Rattle.record.proofs.reaches_past.Tie as tie
-use Rattle.record.proofs.reaches_past.Reads as reads
-use Rattle.record.proofs.reaches_past.Lts as lts
 
--- src/lib.rt:35:23
 mul-if1 : tie.Need-mul-if1
 mul-if1 c = search needs
 
--- src/lib.rt:35:14
 add-if1 : tie.Need-add-if1
 add-if1 c = search needs
 
--- src/lib.rt:36:9
 returns : tie.Need-returns
 unfolding reachesPast
 returns c = yes-is _ (lt-ltb _ _ (c .if1 .taken))
 
--- src/lib.rt:39:9
 returns-2 : tie.Need-returns-2
 unfolding reachesPast
 returns-2 c = no-is _ (le-ltb _ _ (c .before .if1 .left)) (sym (le-ltb (c .before .before .args .len) (512 * (c .before .before .args .count - 1)) (omega arith)))
 
--- src/lib.rt:41:18
 sub-result : tie.Need-sub-result
 sub-result c = search needs
 
--- src/lib.rt:41:11
 mul-result : tie.Need-mul-result
 mul-result c = search needs
 
--- src/lib.rt:31:1
 returns-3 : tie.Need-returns-3
 unfolding reachesPast
 returns-3 c = no-is _ (le-ltb _ _ (c .before .if1 .left)) refl

@@ -1,96 +1,72 @@
+-- Each return follows the definition's tests; what the tests leave is what the sectors need (fits-bounds, reaches-not).
 use borrow.Author.Needs.{needs}
 use native.Mathlib.Omega.{arith}
-use mathlib.Core.Path.{_≡_, refl, sym, ap, _∙_}
+use mathlib.Core.Path.{sym, _∙_}
 use borrow.Author.Tests.{lt-ltb, le-ltb, eq-eqb, ne-eqb, not-false}
 use Rattle.format.proofs.Record.{fits-bounds, reaches-not}
 use Rattle.format.specs.Pick.{yes-is, no-is}
 use Rattle.format.specs.Record.{repair}
 use Rattle.record.proofs.repair.Statement.{statement}
 use Rattle.record.proofs.repair.Tie as tie
-use Rattle.record.proofs.repair.Reads as reads
-use Rattle.record.proofs.repair.Lts as lts
-use Rattle.record.proofs.length_fits.Reads as length-fits-reads
-use Rattle.record.proofs.mend_all.Reads as mend-all-reads
-use Rattle.record.proofs.reaches_past.Reads as reaches-past-reads
-use Rattle.record.proofs.word_at.Reads as word-at-reads
 
--- src/lib.rt:86:9
 length-fits-requires : tie.Need-length-fits-requires
 length-fits-requires c κs = search needs
 
--- src/lib.rt:87:9
 returns : tie.Need-returns
 unfolding repair
 returns c = rw (← (c .before .length-fits .ensures)) (yes-is _ (c .if1 .taken))
 
--- src/lib.rt:89:9
 word-at-requires : tie.Need-word-at-requires
 word-at-requires c κs = omega (arith, fits-bounds _ (sym (c .before .before .length-fits .ensures) ∙ not-false _ (c .before .if1 .left)) .0)
 
--- src/lib.rt:90:14
 add-if2 : tie.Need-add-if2
 add-if2 c = search needs
 
--- src/lib.rt:91:9
 same-length : tie.Need-same-length
 same-length c = search needs
 
--- src/lib.rt:91:9
 returns-2 : tie.Need-returns-2
 unfolding repair
 returns-2 c = rw (← (c .before .before .before .before .length-fits .ensures)) (no-is _ (c .before .before .before .if1 .left) (rw (← (c .before .word-at .ensures .0)) (yes-is _ (lt-ltb _ _ (c .if2 .taken)))))
 
--- src/lib.rt:93:9
 word-at-requires-2 : tie.Need-word-at-requires-2
 word-at-requires-2 c κs = omega (arith, fits-bounds _ (sym (c .before .before .before .before .before .length-fits .ensures) ∙ not-false _ (c .before .before .before .before .if1 .left)) .0)
 
--- src/lib.rt:95:9
 same-length-2 : tie.Need-same-length-2
 same-length-2 c = search needs
 
--- src/lib.rt:95:9
 returns-3 : tie.Need-returns-3
 unfolding repair
 returns-3 c = rw (← (c .before .before .before .before .before .before .before .length-fits .ensures)) (no-is _ (c .before .before .before .before .before .before .if1 .left) (rw (← (c .before .before .before .before .word-at .ensures .0)) (no-is _ (le-ltb _ _ (c .before .before .before .if2 .left)) (rw (← (c .before .word-at2 .ensures .0)) (yes-is _ (eq-eqb _ _ (c .if3 .taken)))))))
 
--- src/lib.rt:97:8
 reaches-past-requires : tie.Need-reaches-past-requires
 reaches-past-requires c κs = search needs
 
--- src/lib.rt:98:9
 same-length-3 : tie.Need-same-length-3
 same-length-3 c = search needs
 
--- src/lib.rt:98:9
 returns-4 : tie.Need-returns-4
 unfolding repair
 returns-4 c = rw (← (c .before .before .before .before .before .before .before .before .before .length-fits .ensures)) (no-is _ (c .before .before .before .before .before .before .before .before .if1 .left) (rw (← (c .before .before .before .before .before .before .word-at .ensures .0)) (no-is _ (le-ltb _ _ (c .before .before .before .before .before .if2 .left)) (rw (← (c .before .before .before .word-at2 .ensures .0)) (no-is _ (ne-eqb _ _ (c .before .before .if3 .left)) (rw (← (c .before .reaches-past .ensures)) (yes-is _ (c .if4 .taken))))))))
 
--- src/lib.rt:100:14
 slice-read-lo : tie.Need-slice-read-lo
 slice-read-lo c = search needs
 
--- src/lib.rt:101:19
 add-hi : tie.Need-add-hi
 add-hi c = search needs
 
--- src/lib.rt:101:14
 slice-read-hi : tie.Need-slice-read-hi
 slice-read-hi c = search needs
 
--- src/lib.rt:102:36
 sub-mend-all : tie.Need-sub-mend-all
 sub-mend-all c = search needs
 
--- src/lib.rt:102:5
 mend-all-requires : tie.Need-mend-all-requires
 mend-all-requires c κs = let h = reaches-not _ _ _ (sym (c .before .before .before .before .reaches-past .ensures) ∙ c .before .before .before .if4 .left) in (omega (arith, h .0), h .1)
 
--- src/lib.rt:82:1
 same-length-4 : tie.Need-same-length-4
 same-length-4 c = search needs
 
--- src/lib.rt:82:1
 returns-5 : tie.Need-returns-5
 unfolding repair
 returns-5 c = rw (← (c .before .before .before .before .before .before .before .before .before .before .before .before .before .before .before .length-fits .ensures)) (no-is _ (c .before .before .before .before .before .before .before .before .before .before .before .before .before .before .if1 .left) (rw (← (c .before .before .before .before .before .before .before .before .before .before .before .before .word-at .ensures .0)) (no-is _ (le-ltb _ _ (c .before .before .before .before .before .before .before .before .before .before .before .if2 .left)) (rw (← (c .before .before .before .before .before .before .before .before .before .word-at2 .ensures .0)) (no-is _ (ne-eqb _ _ (c .before .before .before .before .before .before .before .before .if3 .left)) (rw (← (c .before .before .before .before .before .before .before .reaches-past .ensures)) (no-is _ (c .before .before .before .before .before .before .if4 .left) (c .before .before .mend-all .ensures))))))))

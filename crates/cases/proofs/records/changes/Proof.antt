@@ -1,0 +1,54 @@
+-- The index stays inside both arrays.
+use borrow.Author.Needs.{needs}
+use Prim.Native.Nat.{_-_, _≤_}
+use Rattle.cases.proofs.records.changes.Statement.{statement}
+use Rattle.cases.proofs.records.changes.Tie as tie
+
+abbrev Inv-loop : tie.InvT-loop
+Inv-loop before after i₀ i = i ≤ 4097
+
+abbrev μ-loop : tie.MeasureT-loop
+μ-loop before after i₀ i = 4097 - i
+
+loop-holds : tie.Need-loop-holds Inv-loop μ-loop
+loop-holds c = search needs
+
+element-copy-out-if1 : tie.Need-element-copy-out-if1 Inv-loop μ-loop
+element-copy-out-if1 c = search needs
+
+element-copy-out-if1-2 : tie.Need-element-copy-out-if1-2 Inv-loop μ-loop
+element-copy-out-if1-2 c = search needs
+
+element-copy-out-changed : tie.Need-element-copy-out-changed Inv-loop μ-loop
+element-copy-out-changed c = search needs
+
+changed-requires : tie.Need-changed-requires Inv-loop μ-loop
+changed-requires c κs = search needs
+
+add-i : tie.Need-add-i Inv-loop μ-loop
+add-i c = search needs
+
+loop-less : tie.Need-loop-less Inv-loop μ-loop
+loop-less c = search needs
+
+loop-again : tie.Need-loop-again Inv-loop μ-loop
+loop-again c = search needs
+
+returns : tie.Need-returns Inv-loop μ-loop
+returns c = search needs
+
+pub changes-spec : {M : Type 1} → statement M
+changes-spec =
+    tie.close
+    (tie.spec
+    Inv-loop
+    μ-loop
+    loop-holds
+    element-copy-out-if1
+    element-copy-out-if1-2
+    element-copy-out-changed
+    changed-requires
+    add-i
+    loop-less
+    loop-again
+    returns)
