@@ -3,3 +3,5 @@ pub mod Powers
 pub mod Boot
 pub mod Record
 pub mod Repaired
+pub mod Runs
+pub mod Listed

@@ -5,3 +5,5 @@ pub mod Sample
 pub mod BootCases
 pub mod Record
 pub mod RecordCases
+pub mod Runs
+pub mod Listed

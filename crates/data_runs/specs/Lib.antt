@@ -1,0 +1,2 @@
+pub mod Scratch
+pub mod Shown
