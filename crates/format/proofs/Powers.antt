@@ -12,7 +12,7 @@ use types.Run.{OneOf}
 use lib.Pow.{pow-mono, pow-lt}
 use lib.Dec.{eqb, ltb}
 use Rattle.format.specs.Pick.{pick, pick-not, pick-or, pick-all, yes-is, no-is}
-use Rattle.format.specs.Number.{isPower, powerOfTwo, between, powerBetween}
+use Rattle.format.specs.Number.{isPower, powerOfTwo, between, powerBetween, clusterSound, minCluster, maxCluster}
 
 -- the powers as the keys of a choice
 abbrev pub powers : ℕ → ℕ → List ℕ
@@ -116,3 +116,7 @@ power-now k j m n e h = rw (e, eq-eqb n (2 ^ k) h)
 pub power-over : (k j n : ℕ) → j ≡ 0 → isPower k j n ≡ false
 unfolding isPower
 power-over k j n e = rw e
+
+pub sound-bounds : (n : ℕ) → clusterSound n ≡ true → (512 ≤ n) × (n ≤ 2097152)
+unfolding clusterSound
+sound-bounds n e = power-between-bounds minCluster maxCluster n e

@@ -2,6 +2,7 @@
 -- the list is over. By going down the choices of a step with what must hold of the answer.
 use Prim.Native.Nat.{ℕ, zero, suc, _+_, _-_, _*_, _/_, _%_, _^_, _<_, _≤_}
 use mathlib.Core.Path.{_≡_, refl, sym, ap, subst, _∙_}
+use mathlib.Core.Bool.{true}
 use mathlib.Core.List.{List}
 use native.Mathlib.Omega.{arith}
 use native.Mathlib.Nat.{mul-pos}
@@ -9,18 +10,24 @@ use native.Mathlib.Decide.{decLt}
 use lib.ListN.{length, getD}
 use lib.Dec.{ltb, leb, eqb}
 use lib.IntN.{ℤ, pos, _+ℤ_}
-use borrow.Author.Tests.{ltb-false, leb-false, le-leb, lt-leb, lt-ltb, le-ltb, eqb-false}
+use borrow.Author.Tests.{ltb-true, ltb-false, leb-false, le-leb, lt-leb, lt-ltb, le-ltb, eqb-false}
 use Rattle.format.specs.Pick.{pick, pick-all, pick-yes}
 use Rattle.format.specs.Number.{little, unsigned, signed, within, withinℤ, Word}
 use Rattle.format.specs.Number.Word.{word, outside}
-use Rattle.format.specs.Runs.{Run, Step, isHole, ends, onDisk, moved, deltaPart, sized, countPart, step}
+use Rattle.format.specs.Runs.{Place, Run, Step, isHole, ends, onDisk, moved, deltaPart, sized, countPart, step}
+use Rattle.format.specs.Runs.Place.{disk, hole}
 use Rattle.format.specs.Runs.Step.{over, found, faulty}
 use Rattle.format.specs.Listed.{RunList, runList, Lawful}
+
+-- rule 19, of a run's place and size
+abbrev pub Inside : Place → ℕ → Type 0
+Inside (disk p) size = p + size < 2 ^ 64
+Inside hole size = Unit {0}
 
 -- what holds of a run that a step at a cursor of a list of n bytes finds
 abbrev pub Ahead : ℕ → ℕ → Step → Type 0
 Ahead at n over = Unit {0}
-Ahead at n (found r to lcn) = (at + 1 < to) × (to ≤ n) × (0 < r .size)
+Ahead at n (found r to lcn) = (at + 1 < to) × (to ≤ n) × (0 < r .size) × Inside (r .place) (r .size)
 Ahead at n (faulty k vs) = Unit {0}
 
 abbrev Positive : Word → Type 0
@@ -35,14 +42,18 @@ none-is-zero : (s : List ℕ) (from n : ℕ) → n ≡ 0 → unsigned s from n �
 unfolding unsigned little
 none-is-zero s from n e = rw e
 
+ends-inside : (p size : ℕ) → ends p size ≡ true → p + size < 2 ^ 64
+unfolding ends
+ends-inside p size e = ltb-true (p + size) (2 ^ 64) e
+
 module _ (cluster at n : ℕ) where
   onDisk-ahead : (to lcn size : ℕ) (w : Word) → at + 1 < to → to ≤ n → 0 < size → Ahead at n (onDisk cluster at to lcn size w)
   onDisk-ahead to lcn size outside h k z = tt
-  onDisk-ahead to lcn size (word p) h k z = pick-all (Ahead at n) (ends p size) _ _ (λ _. (h, k, z)) (λ _. tt)
+  onDisk-ahead to lcn size (word p) h k z = pick-all (Ahead at n) (ends p size) _ _ (λ e. (h, k, z, ends-inside p size e)) (λ _. tt)
 
   moved-ahead : (to lcn size m : ℕ) (d : ℤ) (w : Word) → at + 1 < to → to ≤ n → 0 < size → Ahead at n (moved cluster at to lcn size m d w)
   moved-ahead to lcn size m d outside h k z = tt
-  moved-ahead to lcn size m d (word x) h k z = pick-all (Ahead at n) (isHole m d x) _ _ (λ _. (h, k, z)) (λ _. onDisk-ahead to x size (within (x * cluster)) h k z)
+  moved-ahead to lcn size m d (word x) h k z = pick-all (Ahead at n) (isHole m d x) _ _ (λ _. (h, k, z, tt)) (λ _. onDisk-ahead to x size (within (x * cluster)) h k z)
 
 module _ (cluster at : ℕ) (s : List ℕ) (lcn : ℕ) where
   delta-ahead : (from m size : ℕ) → at + 1 < from → from ≤ length s → 0 < size → Ahead at (length s) (deltaPart cluster at s lcn from m size)
@@ -72,6 +83,10 @@ module _ (cluster at : ℕ) (s : List ℕ) (lcn : ℕ) where
   pub ahead : 0 < cluster → Ahead at (length s) (step cluster s at lcn)
   unfolding step
   ahead c = pick-all (Ahead at (length s)) (leb (length s) at) _ _ (λ _. tt) (λ e. count-ahead (getD s at 0) c (leb-false (length s) at e))
+
+-- a run that is found keeps rule 19
+pub found-inside : (cluster : ℕ) (s : List ℕ) (a l : ℕ) (r : Run) (a′ l′ : ℕ) → 0 < cluster → step cluster s a l ≡ found r a′ l′ → Inside (r .place) (r .size)
+found-inside cluster s a l r a′ l′ c e = (subst (Ahead a (length s)) e (ahead cluster a s l c)) .3
 
 pub lawful : (cluster : ℕ) (s : List ℕ) → 0 < cluster → Lawful (runList cluster s)
 unfolding step

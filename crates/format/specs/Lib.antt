@@ -7,3 +7,4 @@ pub mod Record
 pub mod RecordCases
 pub mod Runs
 pub mod Listed
+pub mod Cases

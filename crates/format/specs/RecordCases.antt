@@ -47,15 +47,20 @@ table =
     ∷ leaves (at 6 1 ∷ at 510 8 ∷ []) []
     ∷ refuses (at 6 0 ∷ []) 10 [] []
     ∷ refuses (at 6 4 ∷ []) 11 (pos 4 ∷ []) []
-    -- the array at the record's very end, and two bytes further
+    -- the array up to the record's very end, one byte further, and the number up to the end, one byte further
+    ∷ refuses (at 4 0xfa ∷ at 5 3 ∷ []) 12 (pos 0 ∷ pos 7 ∷ pos 0 ∷ []) []
+    ∷ refuses (at 4 0xfb ∷ at 5 3 ∷ []) 11 (pos 3 ∷ []) []
+    ∷ leaves (at 4 0xfe ∷ at 5 3 ∷ at 6 1 ∷ []) []
     ∷ refuses (at 4 0xfc ∷ at 5 3 ∷ []) 11 (pos 3 ∷ []) []
     ∷ refuses (at 4 0xff ∷ at 5 3 ∷ []) 9 (pos 1023 ∷ []) []
     -- entry 1 lies on the end of sector 0: it is what sector 0's repair left there
     ∷ leaves (at 4 0xfa ∷ at 5 1 ∷ at 506 7 ∷ at 508 0xc1 ∷ at 509 0xc2 ∷ []) (at 510 0xc1 ∷ at 511 0xc2 ∷ at 1022 0xc1 ∷ at 1023 0xc2 ∷ [])
+    -- entry 0 begins on the byte before the end of sector 0 and overlaps it by one: both bytes are read before either is written
+    ∷ leaves (at 4 0xfb ∷ at 5 1 ∷ at 6 2 ∷ at 507 7 ∷ at 509 0xc1 ∷ []) (at 510 0xc1 ∷ at 511 7 ∷ [])
     -- the number itself lies on the end of sector 0: sector 1 is compared with the copy
     ∷ leaves (at 4 0xfe ∷ at 5 1 ∷ at 512 0xd1 ∷ at 513 0xd2 ∷ at 514 0xe1 ∷ []) (at 510 0xd1 ∷ at 511 0xd2 ∷ at 1022 0xe1 ∷ at 1023 0 ∷ [])
     ∷ []
 
 pub cases : AllHold table
 unfolding pick little unsigned between ended mend mismatch sectors lengthFits reachesPast repair changed recordSample
-cases = (refl, (refl, (refl, (refl, (refl, (refl, (refl, (refl, (refl, (refl, (refl, tt)))))))))))
+cases = (refl, (refl, (refl, (refl, (refl, (refl, (refl, (refl, (refl, (refl, (refl, (refl, (refl, (refl, (refl, tt)))))))))))))))
