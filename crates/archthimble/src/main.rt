@@ -3,8 +3,10 @@ mod boot;
 mod files;
 mod names;
 mod records;
+mod runs;
 mod table;
 mod text;
+mod words;
 
 use text::say;
 
@@ -15,6 +17,9 @@ fn usage() {
     );
     say(
         b"archthimble record FILE     repairs a copy of a file record or index record, and says what was found\n",
+    );
+    say(
+        b"archthimble runs LIST SIZE  the runs of a list in hex, as '11 02 0A 00', at a cluster size in bytes\n",
     );
     say(b"archthimble help            this\n");
 }
@@ -47,6 +52,16 @@ fn command(word: &[u8], words: usize) {
         if one_file(words) {
             records::file();
         }
+        return;
+    }
+    if check::same(word, b"runs") {
+        if words == 4 {
+            runs::typed();
+            return;
+        }
+        say(
+            b"That takes a list in hex and a cluster size, as in: archthimble runs '11 02 0A 00' 512\n",
+        );
         return;
     }
     if check::same(word, b"help") {

@@ -24,6 +24,21 @@ fn name(n: u64) {
         10 => say(b"sequence count: "),
         11 => say(b"sequence array: "),
         12 => say(b"torn record: "),
+        _ => run_name(n),
+    }
+}
+
+fn run_name(n: u64) {
+    match n {
+        13 => say(b"run header: "),
+        14 => say(b"cut run: "),
+        15 => say(b"empty run: "),
+        16 => say(b"run size: "),
+        17 => say(b"run LCN: "),
+        18 => say(b"run place: "),
+        19 => say(b"run end: "),
+        21 => say(b"unsound: "),
+        22 => say(b"list length: "),
         _ => {}
     }
 }
@@ -33,7 +48,11 @@ fn sentence(n: u64) {
         of_boot(n);
         return;
     }
-    of_record(n);
+    if n <= 12 {
+        of_record(n);
+        return;
+    }
+    of_runs(n);
 }
 
 fn of_boot(n: u64) {
@@ -62,6 +81,23 @@ fn of_record(n: u64) {
         12 => say(
             b"the sector given (from 0) ends in the two bytes given, not in the sequence number.\n",
         ),
+        _ => {}
+    }
+}
+
+fn of_runs(n: u64) {
+    match n {
+        13 => say(b"a half of the header at the byte given is over 8.\n"),
+        14 => say(b"the list ends inside the run whose header stands at the byte given.\n"),
+        15 => say(b"the run whose header stands at the byte given has no clusters.\n"),
+        16 => say(b"the size of the run at the byte given is over 2^64 - 1.\n"),
+        17 => say(
+            b"the run at the byte given leads from the previous LCN given to one below 0 or over 2^64 - 1.\n",
+        ),
+        18 => say(b"the place of the run at the byte given is over 2^64 - 1.\n"),
+        19 => say(b"the end of the run at the byte given is over 2^64 - 1.\n"),
+        21 => say(b"the cluster size must be a power of two from 512 to 2097152.\n"),
+        22 => say(b"a list to look up in has 4096 bytes at most.\n"),
         _ => {}
     }
 }

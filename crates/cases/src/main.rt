@@ -1,4 +1,4 @@
-// What the scope of work says, run case by case: each number of its text at both sides of its limit, a line a case.
+// What the scope of work says of boot sectors and records, run case by case: each number at both sides of its limit, a line a case.
 mod boot;
 mod records;
 mod text;

@@ -1,16 +1,13 @@
+-- A sum that fits, by a difference (ends-same).
 use borrow.Author.Needs.{needs}
 use native.Mathlib.Omega.{arith}
 use Rattle.format.proofs.Runs.{ends-same}
 use Rattle.data_runs.proofs.ends_inside.Statement.{statement}
 use Rattle.data_runs.proofs.ends_inside.Tie as tie
-use Rattle.data_runs.proofs.ends_inside.Reads as reads
-use Rattle.data_runs.proofs.ends_inside.Lts as lts
 
--- src/lib.rt:108:14
 sub-result : tie.Need-sub-result
 sub-result c = search needs
 
--- src/lib.rt:105:1
 returns : tie.Need-returns
 returns c = ends-same (c .args .place) (c .args .size) (omega (arith, c .fits))
 

@@ -1,38 +1,28 @@
+-- The position's answer and the end's test are the definition's.
 use borrow.Author.Needs.{needs}
 use mathlib.Core.Path.{refl}
 use Rattle.format.specs.Pick.{yes-is, no-is}
 use Rattle.data_runs.proofs.on_disk.Statement.{statement}
 use Rattle.data_runs.proofs.on_disk.Tie as tie
-use Rattle.data_runs.proofs.on_disk.Reads as reads
-use Rattle.data_runs.proofs.on_disk.Lts as lts
-use Rattle.data_runs.proofs.ends_inside.Reads as ends-inside-reads
-use Rattle.types.proofs.Lcn.position.Reads as position-reads
 
--- src/lib.rt:115:11
 position-requires : tie.Need-position-requires
 position-requires c κs = search needs
 
--- src/lib.rt:116:39
 enum-told : tie.Need-enum-told
 enum-told c = search needs
 
--- src/lib.rt:117:18
 enum-known-place : tie.Need-enum-known-place
 enum-known-place c = search needs
 
--- src/lib.rt:118:16
 ends-inside-requires : tie.Need-ends-inside-requires
 ends-inside-requires c κs = search needs
 
--- src/lib.rt:112:1
 returns : tie.Need-returns
 returns c = rw (← (c .before .before .position .ensures), c .enum-told .given .1)
 
--- src/lib.rt:112:1
 returns-2 : tie.Need-returns-2
 returns-2 c = rw (← (c .before .before .before .before .before .position .ensures), c .before .before .before .place .given .1, ← (c .before .ends-inside .ensures)) (yes-is _ (c .if1 .taken))
 
--- src/lib.rt:112:1
 returns-3 : tie.Need-returns-3
 returns-3 c = rw (← (c .before .before .before .before .before .position .ensures), c .before .before .before .place .given .1, ← (c .before .ends-inside .ensures)) (no-is _ (c .if1 .left) refl)
 

@@ -1,3 +1,4 @@
+-- What a step says decides one rule of the lookup (Listed); the bytes left of the list fall at each call.
 use Prim.Native.Nat.{ℕ, _-_, _<_}
 use mathlib.Core.Path.{sym, ap, _∙_}
 use native.Mathlib.Omega.{arith}
@@ -28,7 +29,6 @@ from-at t = and 1 from-kinds.ps (is 1 from-kinds.ps μ-from t) from.Pre
 abbrev from-below : ℕ → In 1 from-kinds.ps
 from-below t = and 1 from-kinds.ps (falls 1 from-kinds.ps _<_ μ-from t) from.Pre
 
--- src/lib.rt:44:11
 from-decode-requires : (t : ℕ) → from-lts.Need-decode-requires (
   decode-reads.Asked,
   decode-reads.Learnt,
@@ -39,7 +39,6 @@ from-decode-requires : (t : ℕ) → from-lts.Need-decode-requires (
 ) (from-at t) from.Post
 from-decode-requires t c κs = search needs
 
--- src/lib.rt:45:22
 from-enum-known-run : (t : ℕ) → from-lts.Need-enum-known-run (
   decode-reads.Asked,
   decode-reads.Learnt,
@@ -50,7 +49,6 @@ from-enum-known-run : (t : ℕ) → from-lts.Need-enum-known-run (
 ) (from-at t) from.Post
 from-enum-known-run t c = search needs
 
--- src/lib.rt:49:17
 from-within-requires : (t : ℕ) → from-lts.Need-within-requires (
   decode-reads.Asked,
   decode-reads.Learnt,
@@ -61,7 +59,6 @@ from-within-requires : (t : ℕ) → from-lts.Need-within-requires (
 ) (from-at t) from.Post
 from-within-requires t c κs = let a = c .before .before .before .before .before .before in let r = c .before .before .run .given in inside-fits (shownPlace (r .0 .0 .place)) (r .0 .0 .size) (a .args .offset) (found-inside _ _ _ _ _ _ _ (a .pre .1) (sym (c .before .before .before .before .decode .ensures) ∙ ap shown (c .before .before .run .given .1))) (c .if1 .taken)
 
--- src/lib.rt:51:17
 from-from-requires : (t : ℕ) → from-lts.Need-from-requires (
   decode-reads.Asked,
   decode-reads.Learnt,
@@ -72,7 +69,6 @@ from-from-requires : (t : ℕ) → from-lts.Need-from-requires (
 ) (from-at t) from.Post
 from-from-requires t c κs = let a = c .before .before .before .before .before .before in let h = lawful (a .args .cluster) (a .args .list .now) (a .pre .1) .moves _ _ _ _ _ (sym (c .before .before .before .before .decode .ensures) ∙ ap shown (c .before .before .run .given .1)) in (omega (arith, a .pre .0, h .0, h .1), a .pre .1)
 
--- src/lib.rt:54:26
 from-enum-told : (t : ℕ) → from-lts.Need-enum-told (
   decode-reads.Asked,
   decode-reads.Learnt,
@@ -83,7 +79,6 @@ from-enum-told : (t : ℕ) → from-lts.Need-enum-told (
 ) (from-at t) from.Post
 from-enum-told t c = search needs
 
--- src/lib.rt:55:26
 from-enum-known-x : (t : ℕ) → from-lts.Need-enum-known-x (
   decode-reads.Asked,
   decode-reads.Learnt,
@@ -94,7 +89,6 @@ from-enum-known-x : (t : ℕ) → from-lts.Need-enum-known-x (
 ) (from-at t) from.Post
 from-enum-known-x t c = search needs
 
--- src/lib.rt:39:1
 from-returns : (t : ℕ) → from-lts.Need-returns (
   decode-reads.Asked,
   decode-reads.Learnt,
@@ -105,7 +99,6 @@ from-returns : (t : ℕ) → from-lts.Need-returns (
 ) (from-at t) from.Post
 from-returns t c = let a = c .before .before .before .before .before .before .before in c .within .ensures ∙ sym (lookup-found _ (lawful _ _ (a .pre .1)) _ _ _ _ _ _ (sym (c .before .before .before .before .before .decode .ensures) ∙ ap shown (c .before .before .before .run .given .1)) ∙ pick-yes _ _ (lt-ltb _ _ (c .before .if1 .taken)))
 
--- src/lib.rt:39:1
 from-returns-2 : (t : ℕ) → from-lts.Need-returns-2 (
   decode-reads.Asked,
   decode-reads.Learnt,
@@ -116,7 +109,6 @@ from-returns-2 : (t : ℕ) → from-lts.Need-returns-2 (
 ) (from-at t) from.Post
 from-returns-2 t c = let a = c .before .before .before .before .before .before .before in c .from .ensures ∙ sym (lookup-found _ (lawful _ _ (a .pre .1)) _ _ _ _ _ _ (sym (c .before .before .before .before .before .decode .ensures) ∙ ap shown (c .before .before .before .run .given .1)) ∙ pick-no _ _ (le-ltb _ _ (c .before .if1 .left)))
 
--- src/lib.rt:39:1
 from-returns-3 : (t : ℕ) → from-lts.Need-returns-3 (
   decode-reads.Asked,
   decode-reads.Learnt,
@@ -127,7 +119,6 @@ from-returns-3 : (t : ℕ) → from-lts.Need-returns-3 (
 ) (from-at t) from.Post
 from-returns-3 t c = sym (lookup-over _ (lawful _ _ (c .before .before .before .before .pre .1)) _ _ _ (sym (c .before .before .decode .ensures) ∙ ap shown (c .enum-told .given .1)))
 
--- src/lib.rt:39:1
 from-returns-4 : (t : ℕ) → from-lts.Need-returns-4 (
   decode-reads.Asked,
   decode-reads.Learnt,

@@ -1,11 +1,9 @@
+-- The definition's test is the code's.
 use Rattle.lookup.proofs.list_fits.Statement.{statement}
 use mathlib.Core.Path.{refl}
 use Rattle.format.specs.Listed.{listFits}
 use Rattle.lookup.proofs.list_fits.Tie as tie
-use Rattle.lookup.proofs.list_fits.Reads as reads
-use Rattle.lookup.proofs.list_fits.Lts as lts
 
--- src/lib.rt:21:1
 returns : tie.Need-returns
 unfolding listFits
 returns c = refl

@@ -1,29 +1,22 @@
+-- An offset from a disk place on fits, by the demand.
 use borrow.Author.Needs.{needs}
-use native.Mathlib.Omega.{arith}
 use Rattle.format.specs.Listed.{byte}
 use Rattle.lookup.proofs.within.Statement.{statement}
 use Rattle.lookup.proofs.within.Tie as tie
-use Rattle.lookup.proofs.within.Reads as reads
-use Rattle.lookup.proofs.within.Lts as lts
 
--- src/lib.rt:33:21
 enum-known-place : tie.Need-enum-known-place
 enum-known-place c = search needs
 
--- src/lib.rt:33:39
 add-t5 : tie.Need-add-t5
 add-t5 c = record { fits = rw (c .before .place .given .1) at (c .before .before .before .pre) }
 
--- src/lib.rt:34:24
 enum-told : tie.Need-enum-told
 enum-told c = search needs
 
--- src/lib.rt:28:1
 returns : tie.Need-returns
 unfolding byte
 returns c = rw (c .before .place .given .1)
 
--- src/lib.rt:28:1
 returns-2 : tie.Need-returns-2
 unfolding byte
 returns-2 c = rw (c .enum-told .given .1)

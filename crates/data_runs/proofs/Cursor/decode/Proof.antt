@@ -1,96 +1,71 @@
+-- Each return follows the definition's tests; the size's answer decides 16.
 use borrow.Author.Needs.{needs}
 use Rattle.format.specs.Runs.{step, countPart}
 use Rattle.format.specs.Pick.{yes-is, no-is}
 use borrow.Author.Tests.{lt-ltb, le-ltb, le-leb, lt-leb, eq-eqb, ne-eqb}
-use mathlib.Core.Path.{_≡_, refl, sym, ap, _∙_}
 use Rattle.data_runs.proofs.Cursor.decode.Statement.{statement}
 use Rattle.data_runs.proofs.Cursor.decode.Tie as tie
-use Rattle.data_runs.proofs.Cursor.decode.Reads as reads
-use Rattle.data_runs.proofs.Cursor.decode.Lts as lts
-use Rattle.data_runs.proofs.delta_part.Reads as delta-part-reads
-use Rattle.data_runs.proofs.unsigned_at.Reads as unsigned-at-reads
-use Rattle.data_runs.proofs.wide.Reads as wide-reads
-use Rattle.types.proofs.times.Reads as times-reads
 
--- src/lib.rt:217:13
 returns : tie.Need-returns
 unfolding step countPart
 returns c = yes-is _ (le-leb _ _ (c .if1 .taken))
 
--- src/lib.rt:219:25
 shared-slice-read-wide : tie.Need-shared-slice-read-wide
 shared-slice-read-wide c = search needs
 
--- src/lib.rt:219:20
 wide-requires : tie.Need-wide-requires
 wide-requires c κs = search needs
 
--- src/lib.rt:221:13
 returns-2 : tie.Need-returns-2
 unfolding step countPart
 returns-2 c = no-is _ (lt-leb _ _ (c .before .before .before .if1 .left)) (rw (← (c .before .wide .ensures .0)) (yes-is _ (eq-eqb _ _ (c .if2 .taken))))
 
--- src/lib.rt:225:13
 returns-3 : tie.Need-returns-3
 unfolding step countPart
 returns-3 c = no-is _ (lt-leb _ _ (c .before .before .before .before .if1 .left)) (rw (← (c .before .before .wide .ensures .0)) (no-is _ (ne-eqb _ _ (c .before .if2 .left)) (yes-is _ (lt-ltb _ _ (c .if3 .taken)))))
 
--- src/lib.rt:227:26
 add-if4 : tie.Need-add-if4
 add-if4 c = search needs
 
--- src/lib.rt:227:12
 sub-if4 : tie.Need-sub-if4
 sub-if4 c = search needs
 
--- src/lib.rt:228:13
 returns-4 : tie.Need-returns-4
 unfolding step countPart
 returns-4 c = no-is _ (lt-leb _ _ (c .before .before .before .before .before .if1 .left)) (rw (← (c .before .before .before .wide .ensures .0)) (no-is _ (ne-eqb _ _ (c .before .before .if2 .left)) (no-is _ (le-ltb _ _ (c .before .if3 .left)) (yes-is _ (lt-ltb _ _ (c .if4 .taken))))))
 
--- src/lib.rt:230:39
 add-unsigned-at : tie.Need-add-unsigned-at
 add-unsigned-at c = search needs
 
--- src/lib.rt:230:13
 unsigned-at-requires : tie.Need-unsigned-at-requires
 unsigned-at-requires c κs = search needs
 
--- src/lib.rt:232:13
 returns-5 : tie.Need-returns-5
 unfolding step countPart
 returns-5 c = no-is _ (lt-leb _ _ (c .before .before .before .before .before .before .before .if1 .left)) (rw (← (c .before .before .before .before .before .wide .ensures .0)) (no-is _ (ne-eqb _ _ (c .before .before .before .before .if2 .left)) (no-is _ (le-ltb _ _ (c .before .before .before .if3 .left)) (no-is _ (le-ltb _ _ (c .before .before .if4 .left)) (rw (← (c .before .unsigned-at .ensures)) (yes-is _ (eq-eqb _ _ (c .if5 .taken))))))))
 
--- src/lib.rt:234:15
 times-requires : tie.Need-times-requires
 times-requires c κs = search needs
 
--- src/lib.rt:235:43
 enum-told : tie.Need-enum-told
 enum-told c = search needs
 
--- src/lib.rt:236:22
 enum-known-size : tie.Need-enum-known-size
 enum-known-size c = search needs
 
--- src/lib.rt:236:52
 add-delta-part : tie.Need-add-delta-part
 add-delta-part c = search needs
 
--- src/lib.rt:236:52
 add-delta-part-2 : tie.Need-add-delta-part-2
 add-delta-part-2 c = search needs
 
--- src/lib.rt:236:31
 delta-part-requires : tie.Need-delta-part-requires
 delta-part-requires c κs = search needs
 
--- src/lib.rt:211:5
 returns-6 : tie.Need-returns-6
 unfolding step countPart
 returns-6 c = no-is _ (lt-leb _ _ (c .before .before .before .before .before .before .before .before .before .before .if1 .left)) (rw (← (c .before .before .before .before .before .before .before .before .wide .ensures .0)) (no-is _ (ne-eqb _ _ (c .before .before .before .before .before .before .before .if2 .left)) (no-is _ (le-ltb _ _ (c .before .before .before .before .before .before .if3 .left)) (no-is _ (le-ltb _ _ (c .before .before .before .before .before .if4 .left)) (rw (← (c .before .before .before .before .unsigned-at .ensures)) (no-is _ (ne-eqb _ _ (c .before .before .before .if5 .left)) (rw (← (c .before .before .times .ensures), c .enum-told .given .1))))))))
 
--- src/lib.rt:211:5
 returns-7 : tie.Need-returns-7
 unfolding step countPart
 returns-7 c = no-is _ (lt-leb _ _ (c .before .before .before .before .before .before .before .before .before .before .before .before .if1 .left)) (rw (← (c .before .before .before .before .before .before .before .before .before .before .wide .ensures .0)) (no-is _ (ne-eqb _ _ (c .before .before .before .before .before .before .before .before .before .if2 .left)) (no-is _ (le-ltb _ _ (c .before .before .before .before .before .before .before .before .if3 .left)) (no-is _ (le-ltb _ _ (c .before .before .before .before .before .before .before .if4 .left)) (rw (← (c .before .before .before .before .before .before .unsigned-at .ensures)) (no-is _ (ne-eqb _ _ (c .before .before .before .before .before .if5 .left)) (rw (← (c .before .before .before .before .times .ensures), c .before .before .size .given .1) (c .delta-part .ensures))))))))

@@ -1,0 +1,152 @@
+// `archthimble runs`: the runs of a list as a table, and a bar that shows where the stream lies on the disk and where in holes.
+use crate::names;
+use crate::table;
+use crate::text;
+use crate::words;
+use data_runs::Cursor;
+use data_runs::Decoded;
+use data_runs::Place;
+use data_runs::Run;
+use lookup::Found;
+use text::say;
+
+// Where the walk stands: the cursor, the bytes covered so far, and whether to go on.
+struct Walk {
+    at: usize,
+    lcn: u64,
+    total: u64,
+    more: bool,
+}
+
+pub fn typed() {
+    let mut text = io::buffer();
+    let n = os::arg(2, &mut text);
+    let mut list = io::buffer();
+    let got = words::hex(&text[..n], &mut list);
+    if !got.good {
+        say(b"The list must be bytes in hex, as in: archthimble runs '11 02 0A 00' 512\n");
+        return;
+    }
+    let cluster = cluster_of();
+    let k = got.n;
+    part(&list, k, cluster);
+}
+
+// The cluster size that was typed, or 0, which no list is decoded with.
+fn cluster_of() -> u64 {
+    let mut text = io::buffer();
+    let n = os::arg(3, &mut text);
+    let x = words::decimal(&text[..n]);
+    if x.good { x.value } else { 0 }
+}
+
+fn part(list: &[u8], n: usize, cluster: u64) {
+    if n <= list.len() {
+        show(&list[..n], cluster);
+    }
+}
+
+pub fn show(list: &[u8], cluster: u64) {
+    say(b"              header                size  place\n");
+    let mut w = Walk {
+        at: 0,
+        lcn: 0,
+        total: 0,
+        more: true,
+    };
+    let mut turns = list.len() + 1;
+    while 0 < turns {
+        w = onward(w, list, cluster);
+        turns = turns - 1;
+    }
+    bar(list, cluster, w.total);
+}
+
+fn onward(w: Walk, list: &[u8], cluster: u64) -> Walk {
+    if !w.more {
+        return w;
+    }
+    let c = Cursor {
+        at: w.at,
+        lcn: w.lcn,
+    };
+    match c.next(list, cluster) {
+        Decoded::Run(run, next) => passed(w, run, next),
+        Decoded::Over => stopped(w),
+        Decoded::Refused(x) => {
+            names::explain(x);
+            stopped(w)
+        }
+    }
+}
+
+fn stopped(w: Walk) -> Walk {
+    Walk {
+        at: w.at,
+        lcn: w.lcn,
+        total: w.total,
+        more: false,
+    }
+}
+
+// A run that was found: its line, and the walk behind it. A total that doesn't fit 64 bits stays as it is.
+fn passed(w: Walk, run: Run, next: Cursor) -> Walk {
+    let size = run.size;
+    line(w.at, run);
+    let total = w.total;
+    if total <= 0xffff_ffff_ffff_ffff - size {
+        return Walk {
+            at: next.at,
+            lcn: next.lcn,
+            total: total + size,
+            more: true,
+        };
+    }
+    Walk {
+        at: next.at,
+        lcn: next.lcn,
+        total,
+        more: true,
+    }
+}
+
+fn line(at: usize, run: Run) {
+    table::aligned(at as u64);
+    table::aligned(run.size);
+    let p = run.place;
+    match p {
+        Place::Disk(place) => {
+            say(b"  byte ");
+            text::number(place);
+            say(b"\n");
+        }
+        Place::Hole => say(b"  hole\n"),
+    }
+}
+
+// Sixty marks from the stream's start to its end: # lies on the disk, . in a hole.
+fn bar(list: &[u8], cluster: u64, total: u64) {
+    if total == 0 {
+        return;
+    }
+    say(b"[");
+    let mut offset: u64 = 0;
+    let mut left: u64 = 60;
+    while 0 < left {
+        mark(list, cluster, offset);
+        offset = std::num::wrapping_add_u64(offset, total / 60);
+        left = left - 1;
+    }
+    say(b"] ");
+    text::number(total);
+    say(b" bytes; # on the disk, . in a hole\n");
+}
+
+fn mark(list: &[u8], cluster: u64, offset: u64) {
+    match lookup::lookup(list, cluster, offset) {
+        Found::Disk(_) => say(b"#"),
+        Found::Hole => say(b"."),
+        Found::NotCovered => say(b" "),
+        Found::Refused(_) => say(b" "),
+    }
+}

@@ -1,0 +1,111 @@
+// Numbers and bytes as they are typed: a decimal number, and bytes in hex with or without blanks between them.
+pub struct Bytes {
+    pub n: usize,
+    // the first digit of a byte that is not whole yet, or 16
+    pub high: u8,
+    pub good: bool,
+}
+
+pub struct Number {
+    pub value: u64,
+    pub good: bool,
+}
+
+// The value of a hex digit, or 16.
+fn digit(b: u8) -> u8 {
+    if b'0' <= b {
+        if b <= b'9' {
+            return b - b'0';
+        }
+    }
+    if b'a' <= b {
+        if b <= b'f' {
+            return b - b'a' + 10;
+        }
+    }
+    if b'A' <= b {
+        if b <= b'F' {
+            return b - b'A' + 10;
+        }
+    }
+    16
+}
+
+fn bad(s: Bytes) -> Bytes {
+    Bytes {
+        n: s.n,
+        high: s.high,
+        good: false,
+    }
+}
+
+fn take(s: Bytes, b: u8, out: &mut [u8]) -> Bytes {
+    if b == b' ' {
+        return s;
+    }
+    let d = digit(b);
+    if 15 < d {
+        return bad(s);
+    }
+    let n = s.n;
+    let high = s.high;
+    if 15 < high {
+        return Bytes {
+            n,
+            high: d,
+            good: s.good,
+        };
+    }
+    if n < out.len() {
+        out[n] = high * 16 + d;
+        return Bytes {
+            n: n + 1,
+            high: 16,
+            good: s.good,
+        };
+    }
+    bad(s)
+}
+
+// Bytes in hex; good where each is whole and all fit.
+pub fn hex(text: &[u8], out: &mut [u8]) -> Bytes {
+    let mut s = Bytes {
+        n: 0,
+        high: 16,
+        good: true,
+    };
+    let mut i = 0;
+    while i < text.len() {
+        s = take(s, text[i], out);
+        i = i + 1;
+    }
+    if s.high == 16 { s } else { bad(s) }
+}
+
+fn place(x: Number, b: u8) -> Number {
+    let d = digit(b) as u64;
+    let value = x.value;
+    if d <= 9 {
+        if value <= (0xffff_ffff_ffff_ffff - d) / 10 {
+            return Number {
+                value: value * 10 + d,
+                good: x.good,
+            };
+        }
+    }
+    Number { value, good: false }
+}
+
+// A decimal number; good where there is one and it fits 64 bits.
+pub fn decimal(text: &[u8]) -> Number {
+    let mut x = Number {
+        value: 0,
+        good: 0 < text.len(),
+    };
+    let mut i = 0;
+    while i < text.len() {
+        x = place(x, text[i]);
+        i = i + 1;
+    }
+    x
+}
