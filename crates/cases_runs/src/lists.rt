@@ -139,7 +139,7 @@ fn refused() {
     walk(b"C15's list, cluster", b"\x11\x01\x0a\x09", 512, 0);
 }
 
-// Each limit at both sides: the largest size, LCN, place and end; the cluster sizes.
+// Each limit at both sides: the largest size, LCN, place and end; then the cluster sizes.
 fn limits() {
     walk(
         b"size 2^64 - 512, cluster",
@@ -179,6 +179,9 @@ fn limits() {
         512,
         0x7f_ffff_ffff_ffff,
     );
+}
+
+fn clusters() {
     walk(b"cluster", b"\x11\x01\x01", 256, 0);
     walk(b"cluster", b"\x11\x01\x01", 513, 0);
     walk(b"cluster", b"\x11\x01\x01", 2097152, 0);
@@ -200,6 +203,7 @@ pub fn cases() {
     sound();
     refused();
     limits();
+    clusters();
     offsets(b"\x11\x02\x0a\x11\x01\xfe\x01\x03\x11\x02\x05\x00");
     place(b"\x11\x01\x0a\x09", 512, 511);
     place(b"\x11\x01\x0a\x09", 512, 512);
