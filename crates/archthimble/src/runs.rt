@@ -21,6 +21,10 @@ struct Walk {
 pub fn typed() {
     let mut text = io::buffer();
     let n = os::arg(2, &mut text);
+    if os::errno() != 0 {
+        os::fail(b"the list");
+        return;
+    }
     let mut list = io::buffer();
     let got = words::hex(&text[..n], &mut list);
     if !got.good {

@@ -207,10 +207,17 @@ pub fn cases() {
     offsets(b"\x11\x02\x0a\x11\x01\xfe\x01\x03\x11\x02\x05\x00");
     place(b"\x11\x01\x0a\x09", 512, 511);
     place(b"\x11\x01\x0a\x09", 512, 512);
-    let long = [1u8; 4097];
+    let whole = [0u8; 4096];
+    fits(&whole);
+    let long = [0u8; 4097];
     longer(&long);
+}
+
+fn fits(list: &[u8; 4096]) {
+    place(list, 512, 0);
 }
 
 fn longer(list: &[u8; 4097]) {
     place(list, 512, 0);
+    place(list, 511, 0);
 }

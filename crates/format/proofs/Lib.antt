@@ -5,3 +5,5 @@ pub mod Record
 pub mod Repaired
 pub mod Runs
 pub mod Listed
+pub mod Reader
+pub mod Demand3

@@ -7,4 +7,6 @@ pub mod Record
 pub mod RecordCases
 pub mod Runs
 pub mod Listed
+pub mod Reader
+pub mod Demand3
 pub mod Cases

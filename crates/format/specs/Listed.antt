@@ -1,5 +1,4 @@
--- A run list as a whole: its runs, where each offset of the stream lies, and where going forward over whole runs ends. Over any
--- decoder of runs; `runList` is the real one.
+-- A run list as a whole: its runs, and where each offset of the stream lies. Over any decoder of runs; `runList` is the real one.
 use Prim.Native.Nat.{ℕ, zero, suc, _+_, _-_, _<_, _≤_}
 use mathlib.Core.Path.{_≡_}
 use mathlib.Core.Bool.{Bool, not}
