@@ -6,4 +6,5 @@ pub mod Repaired
 pub mod Runs
 pub mod Listed
 pub mod Reader
+pub mod Sound
 pub mod Demand3

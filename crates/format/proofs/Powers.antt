@@ -11,7 +11,7 @@ use borrow.Author.Tests.{eq-eqb, ne-eqb, eqb-true, lt-ltb, le-ltb, ltb-false}
 use types.Run.{OneOf}
 use lib.Pow.{pow-mono, pow-lt}
 use lib.Dec.{eqb, ltb}
-use Rattle.format.specs.Pick.{pick, pick-not, pick-or, pick-all, yes-is, no-is}
+use Rattle.format.specs.Pick.{pick, pick-true, pick-or, pick-all, yes-is, no-is}
 use Rattle.format.specs.Number.{isPower, powerOfTwo, between, powerBetween, clusterSound, minCluster, maxCluster}
 
 -- the powers as the keys of a choice
@@ -36,8 +36,8 @@ power-isnt k (suc (suc m)) n h = rw (ne-eqb n (2 ^ k) (λ e. h (inl e))) (power-
 pub between-bounds : (lo hi n : ℕ) → between lo hi n ≡ true → (lo ≤ n) × (n ≤ hi)
 unfolding between
 between-bounds lo hi n e =
-    let a = pick-not (ltb n lo) false _ true (λ z. let f : _≡_ {A = ℕ} 0 1 = cc in omega arith) e in
-    let b = pick-not (ltb hi n) false _ true (λ z. let f : _≡_ {A = ℕ} 0 1 = cc in omega arith) (a .1) in
+    let a = pick-true (ltb n lo) _ e in
+    let b = pick-true (ltb hi n) _ (a .1) in
     (ltb-false n lo (a .0), ltb-false hi n (b .0))
 
 pub power-between-bounds : (lo hi n : ℕ) → powerBetween lo hi n ≡ true → (lo ≤ n) × (n ≤ hi)

@@ -1,23 +1,25 @@
 -- The laws of lists and of readers over them, up to: every read of a reader that tracks the list names what the lookup rule names.
 use Prim.Native.Nat.{ℕ, zero, suc, _+_, _-_, _≤_, _<_, min}
 use mathlib.Core.Path.{_≡_, refl, ap, sym, subst, _∙_}
-use mathlib.Core.List.{_∷_, _++_}
+use mathlib.Core.List.{List, _∷_, _++_}
 use native.Mathlib.Omega.{arith}
 use native.Mathlib.Nat.{sub-zero, zero-add, suc-add, add-zero, add-assoc}
 use lib.Dec.{ltb, leb, eqb}
 use lib.ListN.{length}
+use lib.IntN.{ℤ}
 use borrow.Author.Tests.{leb-true, leb-false, eqb-true, eqb-false, lt-ltb, le-ltb}
-use Rattle.format.specs.Pick.{pick, pick-all, pick-lt, same-test}
+use Rattle.format.specs.Pick.{pick, pick-yes, pick-no, pick-all, pick-lt, same-test}
 use Rattle.format.specs.Listed.{Lawful}
-use Rattle.format.proofs.Listed.{listed-rule}
-use Rattle.format.specs.Listed.{Answer, then, either, RunList, Listed, unroll, listedBy, listed, list, runs, covered, Where, byte, lookup}
+use Rattle.format.proofs.Listed.{listed-rule, listed-at}
+use Rattle.format.specs.Listed.{Answer, then, either, RunList, Listed, unroll, listed, list, runs, covered, Where, byte, lookup}
 use Rattle.format.specs.Listed.Answer.{given, refused}
 use Rattle.format.specs.Runs.{Place, Run, Step}
 use Rattle.format.specs.Runs.Place.{disk, hole}
 use Rattle.format.specs.Runs.Step.{over, found, faulty}
 use Rattle.format.specs.Listed.Listed.{ends, run, breaks}
 use Rattle.format.specs.Listed.Where.{position, notCovered, unknown}
-use Rattle.format.specs.Reader.{Current, Stand, Reader, start, entered, atEnd, leftOf, left, moved, settle, forward, at, opened, seekTo, Reading, further, here, nothing, before, give, fetch, read, upto, expand, bytesAt, amount, total, NoneEmpty}
+use Rattle.format.specs.Reader.{Current, Stand, Reader, start, entered, atEnd, leftOf, left, moved, settle, forward, at, opened, seekTo, Reading, further, here, nothing, before, Turn, give, fetch, turn, follow, read}
+use Rattle.format.specs.History.{upto, expand, bytesAt, amount, total, NoneEmpty}
 use Rattle.format.specs.Reader.Current.{none, some}
 
 -- What holds of an answer that is no refusal.
@@ -272,8 +274,8 @@ module _ (L : RunList) where
 
     -- A span of the run where s stands.
     gives : (room : ℕ) → AllReads room → (w : ℕ) (r : Reader) (s : Stand) → 0 < w → r .place < r .size → 0 < left s → Tracks s (r .place)
-        → Reads (r .place) (r .size) w (suc room) (give (read L room) w r s)
-    unfolding give amount
+        → Outcome (r .place) (r .size) w (suc room) (follow (read L room) w (give w r s))
+    unfolding give follow amount
     gives room all w r s hw hp hl tk =
         let n = min w (min (left s) (r .size - r .place)) in
         let r′ : Reader = record { stand = moved s n; place = r .place + n; size = r .size } in
@@ -284,8 +286,8 @@ module _ (L : RunList) where
     -- The next run is fetched: what is left of the list settles as the reader goes forward.
     fetches : (room : ℕ) → AllReads room → (w : ℕ) (r : Reader) → 0 < w → r .place < r .size → left (r .stand) ≡ 0
         → (x : Step) → L .step (r .stand .cursor) (r .stand .lcn) ≡ x → ((n : ℕ) → settle L (unroll x (r .stand .lcn) (listed L)) n ≡ settle L (list L) (r .place + n))
-        → Outcome (r .place) (r .size) w (suc room) (fetch L r (give (read L room) w r) x)
-    unfolding fetch unroll settle leftOf
+        → Outcome (r .place) (r .size) w (suc room) (follow (read L room) w (fetch L w r x))
+    unfolding fetch follow unroll settle leftOf
     fetches room all w r hw hp hl over e u =
         let p = r .place in
         let i = subst (LeftAt (list L) p) (sym (rw add-zero at (u 0))) (settle-left (list L) p) in
@@ -298,12 +300,12 @@ module _ (L : RunList) where
 
     -- EVERY READ of a reader that tracks the list.
     every-read : (room : ℕ) → AllReads room
-    unfolding read amount
+    unfolding read turn follow amount
     every-read zero w r tk = stop (r .place) (r .size) w zero r (record { tracks = tk; place = refl; size = refl }) (λ h. amount-none (r .place) (r .size) w (runsAt-none (list L) (r .place) (omega arith)))
     every-read (suc room) w r tk =
         let s = r .stand in
-        let O = Outcome (r .place) (r .size) w (suc room) in
-        let halt : amount L (r .place) (r .size) w ≡ 0 → O (given (nothing r)) = λ h. stop (r .place) (r .size) w (suc room) r (record { tracks = tk; place = refl; size = refl }) (λ e. h) in
+        let O : Turn → Type 0 = λ t. Outcome (r .place) (r .size) w (suc room) (follow (read L room) w t) in
+        let halt : amount L (r .place) (r .size) w ≡ 0 → Reads (r .place) (r .size) w (suc room) (nothing r) = λ h. stop (r .place) (r .size) w (suc room) r (record { tracks = tk; place = refl; size = refl }) (λ e. h) in
         pick-all O (eqb w 0) _ _ (λ y. let h = eqb-true w 0 y in halt (omega arith)) (λ y. let hw = eqb-false w 0 y in
         pick-all O (leb (r .size) (r .place)) _ _ (λ y. let h = leb-true (r .size) (r .place) y in halt (omega arith)) (λ y. let hp = leb-false (r .size) (r .place) y in
         pick-lt O 0 (left s) _ _ (λ h. gives room (every-read room) w r s (omega arith) hp h tk)
@@ -312,3 +314,23 @@ module _ (L : RunList) where
 
     pub read-at : (p z w room : ℕ) (r : Reader) → At p z r → Outcome p z w room (read L room w r)
     read-at p z w room r t = subst (λ x. Outcome p x w room (read L room w r)) (t .size) (subst (λ x. Outcome x (r .size) w room (read L room w r)) (t .place) (every-read room w r (rw (t .place) (t .tracks))))
+
+    -- SETTLING at n from a cursor on, one rule for each thing that a step can say.
+    module _ (a l n : ℕ) where
+      pub settle-over : L .step a l ≡ over → settle L (listed L a l) n ≡ given (atEnd L l none 0)
+      unfolding unroll settle
+      settle-over e = rw (listed-at L good a l over e)
+
+      settle-found : (r : Run) (a′ l′ : ℕ) → L .step a l ≡ found r a′ l′ → settle L (listed L a l) n ≡ pick (ltb n (r .size)) (given (moved (entered r a′ l′) n)) (settle L (listed L a′ l′) (n - r .size))
+      unfolding unroll settle
+      settle-found r a′ l′ e = rw (listed-at L good a l (found r a′ l′) e)
+
+      pub settle-in : (r : Run) (a′ l′ : ℕ) → L .step a l ≡ found r a′ l′ → n < r .size → settle L (listed L a l) n ≡ given (record { cursor = a′; lcn = l′; current = some r; displacement = n })
+      settle-in r a′ l′ e h = settle-found r a′ l′ e ∙ pick-yes _ _ (lt-ltb n (r .size) h) ∙ rw zero-add
+
+      pub settle-on : (r : Run) (a′ l′ : ℕ) → L .step a l ≡ found r a′ l′ → r .size ≤ n → settle L (listed L a l) n ≡ settle L (listed L a′ l′) (n - r .size)
+      settle-on r a′ l′ e h = settle-found r a′ l′ e ∙ pick-no _ _ (le-ltb n (r .size) h)
+
+      pub settle-faulty : (k : ℕ) (v : List ℤ) → L .step a l ≡ faulty k v → settle L (listed L a l) n ≡ refused k v
+      unfolding unroll settle
+      settle-faulty k v e = rw (listed-at L good a l (faulty k v) e)

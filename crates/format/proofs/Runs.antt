@@ -1,7 +1,7 @@
 -- The real decoder is lawful: each run it finds isn't empty, takes two bytes of the list or more, and ends inside; at the list's length
 -- the list is over. By going down the choices of a step with what must hold of the answer.
-use Prim.Native.Nat.{ℕ, zero, suc, _+_, _-_, _*_, _/_, _%_, _^_, _<_, _≤_}
-use mathlib.Core.Path.{_≡_, refl, sym, ap, subst, _∙_}
+use Prim.Native.Nat.{ℕ, _+_, _-_, _*_, _/_, _%_, _^_, _<_, _≤_}
+use mathlib.Core.Path.{_≡_, sym, subst, _∙_}
 use mathlib.Core.Bool.{true}
 use mathlib.Core.List.{List}
 use native.Mathlib.Omega.{arith}
@@ -11,18 +11,13 @@ use lib.ListN.{length, getD}
 use lib.Dec.{ltb, leb, eqb}
 use lib.IntN.{ℤ, pos, _+ℤ_}
 use borrow.Author.Tests.{ltb-true, ltb-false, leb-false, le-leb, lt-leb, lt-ltb, le-ltb, eqb-false}
-use Rattle.format.specs.Pick.{pick, pick-all, pick-yes}
+use Rattle.format.specs.Pick.{pick-all, pick-yes}
 use Rattle.format.specs.Number.{little, unsigned, signed, within, withinℤ, Word}
 use Rattle.format.specs.Number.Word.{word, outside}
-use Rattle.format.specs.Runs.{Place, Run, Step, isHole, ends, onDisk, moved, deltaPart, sized, countPart, step}
+use Rattle.format.specs.Runs.{Place, Run, Step, isHole, ends, Inside, onDisk, moved, deltaPart, sized, countPart, step}
 use Rattle.format.specs.Runs.Place.{disk, hole}
 use Rattle.format.specs.Runs.Step.{over, found, faulty}
-use Rattle.format.specs.Listed.{RunList, runList, Lawful}
-
--- rule 19, of a run's place and size
-abbrev pub Inside : Place → ℕ → Type 0
-Inside (disk p) size = p + size < 2 ^ 64
-Inside hole size = Unit {0}
+use Rattle.format.specs.Listed.{runList, Lawful}
 
 -- what holds of a run that a step at a cursor of a list of n bytes finds
 abbrev pub Ahead : ℕ → ℕ → Step → Type 0
@@ -83,6 +78,11 @@ module _ (cluster at : ℕ) (s : List ℕ) (lcn : ℕ) where
   pub ahead : 0 < cluster → Ahead at (length s) (step cluster s at lcn)
   unfolding step
   ahead c = pick-all (Ahead at (length s)) (leb (length s) at) _ _ (λ _. tt) (λ e. count-ahead (getD s at 0) c (leb-false (length s) at e))
+
+-- what is inside with a size is so with a smaller one
+pub inside-less : (p : Place) (size o : ℕ) → Inside p size → o ≤ size → Inside p o
+inside-less (disk p) size o h k = omega arith
+inside-less hole size o h k = tt
 
 -- a run that is found keeps rule 19
 pub found-inside : (cluster : ℕ) (s : List ℕ) (a l : ℕ) (r : Run) (a′ l′ : ℕ) → 0 < cluster → step cluster s a l ≡ found r a′ l′ → Inside (r .place) (r .size)

@@ -4,39 +4,41 @@ use Prim.Native.Nat.{ℕ}
 use mathlib.Core.Path.{_≡_, refl}
 use mathlib.Core.List.{List, [], _∷_}
 use lib.ListN.{replicate}
-use lib.IntN.{pos}
+use lib.IntN.{ℤ, pos, negsuc}
 use Rattle.format.specs.Pick.{pick}
 use Rattle.format.specs.Number.{little, twos, unsigned, signed, within, isPower, powerOfTwo, between, powerBetween, clusterSound}
 use Rattle.format.specs.Runs.{Run, Step, isHole, ends, deltaPart, countPart, step, next}
 use Rattle.format.specs.Runs.Place.{disk, hole}
 use Rattle.format.specs.Runs.Step.{over, found, faulty}
-use Rattle.format.specs.Listed.{Listed, list, runList, unroll, listedBy, listed, Where, byte, lookup, listFits, lookedUp, Listed as L, Where as W, Answer, then, Answer as A}
-use Rattle.format.specs.Reader.{Reader, Span, Reading, leftOf, settle, forward, opened, seekTo, base, target, seek, further, here, give, fetch, read, Position, dataPosition}
-use Rattle.format.specs.Reader.Current.{some}
-use Rattle.format.specs.Reader.From.{fromStart}
-use Rattle.format.specs.Reader.Amount.{up}
-use Rattle.format.specs.Reader.Position.{atByte}
+use Rattle.format.specs.Listed.{Listed, list, runList, unroll, listedBy, listed, Where, byte, lookup, listFits, lookedUp, Listed as L, Where as W, Answer, then, either, Answer as A}
+use Rattle.format.specs.Reader.{Current, From, leftOf, settle, forward, opened, seekTo, base, target, seek, further, here, give, fetch, turn, follow, read, Position}
+use Rattle.format.specs.Reader.Current.{none, some}
+use Rattle.format.specs.Reader.From.{fromStart, fromPlace, fromEnd}
+use Rattle.format.specs.Reader.Position.{atByte, nowhere}
+use Rattle.format.specs.Calls.{Held, placeSound, currentSound, sound, soundIn, opening, seeking, reading, Count, counted, words, stored, standing}
+use Rattle.format.specs.History.{Call, after, history}
+use Rattle.format.specs.History.Call.{seeks, reads}
 
 pub data Case : Type 0 where
   steps : ℕ → List ℕ → ℕ → ℕ → Step → Case
   lists : ℕ → List ℕ → Listed → Case
   looksUp : ℕ → List ℕ → ℕ → Where → Case
-  -- a new reader of 4,000 bytes, sought to a place, that reads w bytes with room for some spans
-  readsAt : ℕ → List ℕ → ℕ → ℕ → ℕ → Answer Reading → Case
-  -- the data position of a new reader after a read, and after a seek
-  standsAfterRead : ℕ → List ℕ → ℕ → Answer Position → Case
-  standsAfterSeek : ℕ → List ℕ → ℕ → Answer Position → Case
+  -- a new reader of 4,000 bytes after some calls: its data position; what a seek answers; what a read answers and leaves of the store
+  standsAfter : ℕ → List ℕ → List Call → Answer Position → Case
+  seeksAfter : ℕ → List ℕ → List Call → From → ℤ → Answer Held → Case
+  readsAfter : ℕ → List ℕ → List Call → ℕ → List ℕ → Answer Count → List ℕ → Case
 
-abbrev soughtNew : ℕ → List ℕ → ℕ → Answer Reader
-soughtNew cluster s t = then (opened (runList cluster s) 4000) (λ r. seek (runList cluster s) r fromStart (up t))
+abbrev heldAfter : ℕ → List ℕ → List Call → Answer Held
+heldAfter cluster s calls = then (opening cluster s 4000) (λ h. A.given (history s 4000 (h, 0) calls .0))
 
 abbrev pub Holds : Case → Type 0
 Holds (steps cluster s at lcn answer) = next cluster s at lcn ≡ answer
 Holds (lists cluster s answer) = list (runList cluster s) ≡ answer
 Holds (looksUp cluster s o answer) = lookedUp cluster s o ≡ answer
-Holds (readsAt cluster s t w room answer) = then (soughtNew cluster s t) (read (runList cluster s) room w) ≡ answer
-Holds (standsAfterRead cluster s w answer) = then (opened (runList cluster s) 4000) (λ r. then (read (runList cluster s) 9 w r) (λ g. A.given (dataPosition (g .reader)))) ≡ answer
-Holds (standsAfterSeek cluster s t answer) = then (soughtNew cluster s t) (λ r. A.given (dataPosition r)) ≡ answer
+Holds (standsAfter cluster s calls answer) = then (heldAfter cluster s calls) standing ≡ answer
+Holds (seeksAfter cluster s calls f a answer) = then (heldAfter cluster s calls) (λ h. seeking s h f a) ≡ answer
+Holds (readsAfter cluster s calls w store answer left) =
+    (then (heldAfter cluster s calls) (λ h. counted cluster (reading s h w store)) ≡ answer) × (either (heldAfter cluster s calls) (λ h. stored store (reading s h w store)) [] ≡ left)
 
 abbrev pub AllHold : List Case → Type 0
 AllHold [] = Unit {0}
@@ -48,9 +50,19 @@ at size p = record { size = size; place = disk p }
 abbrev empty : ℕ → Run
 empty size = record { size = size; place = hole }
 
-abbrev reading : List Span → ℕ → ℕ → ℕ → Run → ℕ → ℕ → Answer Reading
-reading spans bytes cursor lcn r d place =
-    A.given (record { spans = spans; bytes = bytes; reader = record { stand = record { cursor = cursor; lcn = lcn; current = some r; displacement = d }; place = place; size = 4000 } })
+abbrev held : ℕ → ℕ → Current → ℕ → ℕ → Held
+held cursor lcn current d place =
+    record { cluster = 512; reader = record { stand = record { cursor = cursor; lcn = lcn; current = current; displacement = d }; place = place; size = 4000 } }
+
+abbrev count : ℕ → ℕ → Held → Answer Count
+count spans bytes h = A.given (record { spans = spans; bytes = bytes; reader = h })
+
+-- a seek from the start; a read with room for three spans
+abbrev to : ℕ → Call
+to t = seeks fromStart (pos t)
+
+abbrev three : ℕ → Call
+three w = reads w (replicate 9 7)
 
 abbrev pub B : List ℕ
 B = 0x11 ∷ 0x02 ∷ 0x0a ∷ 0x11 ∷ 0x01 ∷ 0xfe ∷ 0x01 ∷ 0x03 ∷ 0x11 ∷ 0x02 ∷ 0x05 ∷ 0x00 ∷ []
@@ -65,10 +77,10 @@ table =
     ∷ steps 512 (0x11 ∷ 0x01 ∷ 0x00 ∷ []) 0 7 (found (empty 512) 3 7)
     ∷ lists 512 B (L.run (at 1024 5120) 3 10 (L.run (at 512 4096) 6 8 (L.run (empty 1536) 8 8 (L.run (at 1024 6656) 11 13 (L.ends 13)))))
     -- C4, C5, C6
-    ∷ readsAt 512 B 900 1000 3 (reading (record { place = disk 6020; length = 124 } ∷ record { place = disk 4096; length = 512 } ∷ record { place = hole; length = 364 } ∷ []) 1000 8 8 (empty 1536) 364 1900)
-    ∷ readsAt 512 B 3900 500 9 (reading (record { place = disk 7484; length = 100 } ∷ []) 100 11 13 (at 1024 6656) 928 4000)
-    ∷ standsAfterRead 512 B 1024 (A.given (atByte 6144))
-    ∷ standsAfterSeek 512 B 1024 (A.given (atByte 4096))
+    ∷ readsAfter 512 B (to 900 ∷ []) 1000 (replicate 9 7) (count 3 1000 (held 8 8 (some (empty 1536)) 364 1900)) (6020 ∷ 124 ∷ 1 ∷ 4096 ∷ 512 ∷ 1 ∷ 0 ∷ 364 ∷ 0 ∷ [])
+    ∷ readsAfter 512 B (to 3900 ∷ []) 500 (replicate 9 7) (count 1 100 (held 11 13 (some (at 1024 6656)) 928 4000)) (7484 ∷ 100 ∷ 1 ∷ replicate 6 7)
+    ∷ standsAfter 512 B (three 1024 ∷ []) (A.given (atByte 6144))
+    ∷ standsAfter 512 B (to 1024 ∷ []) (A.given (atByte 4096))
     -- C7 to C13
     ∷ steps 512 (0x11 ∷ 0x01 ∷ 0x80 ∷ []) 0 0 (faulty 17 (pos 0 ∷ pos 0 ∷ []))
     ∷ steps 512 (0x21 ∷ 0x18 ∷ 0x34 ∷ []) 0 0 (faulty 14 (pos 0 ∷ []))
@@ -84,6 +96,20 @@ table =
     ∷ steps 512 B 13 0 (faulty 21 [])
     ∷ steps 512 B 12 13 over
     ∷ lists 512 broken (L.run (at 512 5120) 3 10 (L.breaks 13 (pos 3 ∷ [])))
+    -- C15 and C16: a read that meets a refused run after bytes gives them, the next one and a seek there are refused
+    ∷ readsAfter 512 broken [] 600 (replicate 9 7) (count 1 512 (held 3 10 (some (at 512 5120)) 512 512)) (5120 ∷ 512 ∷ 1 ∷ replicate 6 7)
+    ∷ readsAfter 512 broken (three 600 ∷ []) 600 (replicate 9 7) (A.refused 13 (pos 3 ∷ [])) (replicate 9 7)
+    ∷ seeksAfter 512 broken [] fromStart (pos 512) (A.refused 13 (pos 3 ∷ []))
+    ∷ seeksAfter 512 B [] fromEnd (negsuc 9223372036854775807) (A.refused 20 [])
+    -- room for two spans of a store of eight words; list over keeps the run; past it there is none; 2^64 is out of range, 2^64 - 1 is not
+    ∷ readsAfter 512 B (to 900 ∷ []) 1000 (replicate 8 7) (count 2 636 (held 6 8 (some (at 512 4096)) 512 1536)) (6020 ∷ 124 ∷ 1 ∷ 4096 ∷ 512 ∷ 1 ∷ 7 ∷ 7 ∷ [])
+    ∷ readsAfter 512 (0x11 ∷ 0x01 ∷ 0x0a ∷ 0x00 ∷ []) [] 600 (replicate 6 7) (count 1 512 (held 4 10 (some (at 512 5120)) 512 512)) (5120 ∷ 512 ∷ 1 ∷ 7 ∷ 7 ∷ 7 ∷ [])
+    ∷ seeksAfter 512 (0x11 ∷ 0x01 ∷ 0x0a ∷ 0x00 ∷ []) [] fromStart (pos 512) (A.given (held 4 10 none 0 512))
+    ∷ seeksAfter 512 B (to 900 ∷ []) fromPlace (negsuc 99) (A.given (held 3 10 (some (at 1024 5120)) 800 800))
+    ∷ seeksAfter 512 B [] fromEnd (pos 18446744073709547615) (A.given (held 12 13 none 0 18446744073709551615))
+    ∷ seeksAfter 512 B [] fromEnd (pos 18446744073709547616) (A.refused 20 [])
+    ∷ standsAfter 512 B (to 1600 ∷ []) (A.given nowhere)
+    ∷ standsAfter 512 B (to 5000 ∷ []) (A.given nowhere)
     -- the lookup rule on B, and on a list that breaks
     ∷ looksUp 512 B 0 (W.position 5120)
     ∷ looksUp 512 B 1023 (W.position 6143)
@@ -102,5 +128,5 @@ table =
     ∷ []
 
 pub cases : AllHold table
-unfolding pick little twos unsigned signed within isPower powerOfTwo between powerBetween clusterSound isHole ends deltaPart countPart step next unroll listedBy listed byte lookup listFits lookedUp leftOf settle forward opened seekTo base target seek further here give fetch read
-cases = (refl, (refl, (refl, (refl, (refl, (refl, (refl, (refl, (refl, (refl, (refl, (refl, (refl, (refl, (refl, (refl, (refl, (refl, (refl, (refl, (refl, (refl, (refl, (refl, (refl, (refl, (refl, (refl, (refl, (refl, (refl, (refl, (refl, (refl, tt))))))))))))))))))))))))))))))))))
+unfolding pick little twos unsigned signed within isPower powerOfTwo between powerBetween clusterSound isHole ends deltaPart countPart step next unroll listedBy listed byte lookup listFits lookedUp leftOf settle forward opened seekTo base target seek further here give fetch turn follow read placeSound currentSound sound soundIn opening seeking reading words standing after history
+cases = (refl, (refl, (refl, ((refl, refl), ((refl, refl), (refl, (refl, (refl, (refl, (refl, (refl, (refl, (refl, (refl, (refl, (refl, (refl, (refl, (refl, (refl, ((refl, refl), ((refl, refl), (refl, (refl, ((refl, refl), ((refl, refl), (refl, (refl, (refl, (refl, (refl, (refl, (refl, (refl, (refl, (refl, (refl, (refl, (refl, (refl, (refl, (refl, (refl, (refl, (refl, (refl, tt))))))))))))))))))))))))))))))))))))))))))))))

@@ -1,12 +1,18 @@
 -- DEMAND 3: after any history a reader is where the history says, names what the lookup rule names, and seeks as a newly opened one.
 -- The statement; its proof is proofs/Demand3.antt.
-use Prim.Native.Nat.{ℕ, _-_, _≤_, _<_}
+use Prim.Native.Nat.{ℕ, _/_, _≤_, _<_}
 use mathlib.Core.Path.{_≡_}
+use mathlib.Core.Bool.{true}
 use mathlib.Core.List.{List}
 use lib.ListN.{length}
-use Rattle.format.specs.Listed.{Answer, RunList, list, runs, ToItsEnd}
+use lib.IntN.{ℤ, pos}
+use Rattle.format.specs.Number.{clusterSound}
+use Rattle.format.specs.Listed.{Answer, RunList, runList, list, runs, ToItsEnd}
 use Rattle.format.specs.Listed.Answer.{given, refused}
-use Rattle.format.specs.Reader.{Reader, opened, seekTo, Reading, read, expand, Call, history, bytesAt, amount, total, NoneEmpty}
+use Rattle.format.specs.Reader.{From, base, target, Reading}
+use Rattle.format.specs.Reader.From.{fromStart}
+use Rattle.format.specs.Calls.{Held, opening, seeking, reading}
+use Rattle.format.specs.History.{Call, history, expand, bytesAt, amount, total, NoneEmpty}
 
 -- No refusal, and so.
 abbrev pub Gives : {A : Type 0} → (A → Type 0) → Answer A → Type 0
@@ -22,14 +28,14 @@ pub record Named (L : RunList) (p z w room : ℕ) (g : Reading) : Type 0 where
   pub enough : runs (list L) ≤ room → g .bytes ≡ amount L p z w
   pub unused : length (g .spans) < room → g .bytes ≡ amount L p z w
 
--- A reader r and the place p that its history gives; `new` is the newly opened one.
-pub record Demand3 (L : RunList) (z : ℕ) (new r : Reader) (p : ℕ) : Type 0 where
-  pub place : r .place ≡ p
-  pub reads : (w room : ℕ) → Gives (Named L p z w room) (read L room w r)
-  pub seeks : (t : ℕ) → (t ≡ p → ⊥) → seekTo L r t ≡ seekTo L new t
-  pub goes : (t : ℕ) → Gives (λ r′. r′ .place ≡ t) (seekTo L r t)
+-- A reader h and the place p that its history gives; `new` is the newly opened one.
+pub record Demand3 (L : RunList) (s : List ℕ) (z : ℕ) (new h : Held) (p : ℕ) : Type 0 where
+  pub place : h .reader .place ≡ p
+  pub reads : (w : ℕ) (store : List ℕ) → Gives (Named L p z w (length store / 3)) (reading s h w store)
+  pub seeks : (f : From) (a : ℤ) (t : ℕ) → target (base p z f) a ≡ given t → (t ≡ p → ⊥) → seeking s h f a ≡ seeking s new fromStart (pos t)
+  pub goes : (f : From) (a : ℤ) (t : ℕ) → target (base p z f) a ≡ given t → Gives (λ h′. h′ .reader .place ≡ t) (seeking s h f a)
 
--- The list opens, and then, whatever the calls.
-abbrev pub Demand : RunList → Type 0
-Demand L = ToItsEnd (list L) → (z : ℕ)
-    → Gives (λ new. (calls : List Call) → let h = history L z (new, 0) calls in Demand3 L z new (h .0) (h .1)) (opened L z)
+-- A list that decodes to its end opens, and then, whatever the calls.
+abbrev pub Demand : ℕ → List ℕ → Type 0
+Demand cluster s = let L = runList cluster s in clusterSound cluster ≡ true → ToItsEnd (list L) → (z : ℕ)
+    → Gives (λ new. (calls : List Call) → let h = history s z (new, 0) calls in Demand3 L s z new (h .0) (h .1)) (opening cluster s z)

@@ -8,5 +8,7 @@ pub mod RecordCases
 pub mod Runs
 pub mod Listed
 pub mod Reader
+pub mod Calls
+pub mod History
 pub mod Demand3
 pub mod Cases

@@ -1,14 +1,15 @@
 -- The reader as the scope lists its parts, opening, seeking, reading. Over any decoder of runs.
-use Prim.Native.Nat.{ℕ, zero, suc, _+_, _-_, _^_, _<_, min}
-use mathlib.Core.Path.{_≡_}
-use mathlib.Core.List.{List, [], _∷_, _++_}
+use Prim.Native.Nat.{ℕ, zero, suc, _+_, _-_, min}
+use mathlib.Core.List.{List, [], _∷_}
 use lib.Dec.{ltb, leb, eqb}
-use lib.IntN.{ℤ}
+use lib.IntN.{ℤ, pos, _+ℤ_}
 use Rattle.format.specs.Pick.{pick}
+use Rattle.format.specs.Number.{Word, withinℤ}
+use Rattle.format.specs.Number.Word.{word, outside}
 use Rattle.format.specs.Runs.{Place, Run, Step}
 use Rattle.format.specs.Runs.Place.{disk, hole}
 use Rattle.format.specs.Runs.Step.{over, found, faulty}
-use Rattle.format.specs.Listed.{Answer, then, either, RunList, Listed, listed, list, runs, covered, Where, byte, lookup}
+use Rattle.format.specs.Listed.{Answer, then, either, RunList, Listed, listed}
 use Rattle.format.specs.Listed.Answer.{given, refused}
 use Rattle.format.specs.Listed.Listed.{ends, run, breaks}
 
@@ -73,27 +74,26 @@ seekTo L r t =
     pick (eqb t (r .place)) (given r)
     (at t (r .size) (pick (ltb t (r .place)) (forward L start t) (forward L (r .stand) (t - r .place))))
 
--- From the start, the place or the end, by a u64 (up) or an i64 (up or down); out of range is refusal 20.
+-- From the start, the place or the end, by an integer: a u64 or an i64. A target below 0 or above 2^64 - 1 is refusal 20.
 pub data From : Type 0 where
   fromStart : From
   fromPlace : From
   fromEnd : From
-
-pub data Amount : Type 0 where
-  up : ℕ → Amount
-  down : ℕ → Amount
 
 unfoldable pub base : ℕ → ℕ → From → ℕ
 base place size fromStart = 0
 base place size fromPlace = place
 base place size fromEnd = size
 
-unfoldable pub target : ℕ → Amount → Answer ℕ
-target b (up n) = pick (ltb (b + n) (2 ^ 64)) (given (b + n)) (refused 20 [])
-target b (down n) = pick (leb n b) (given (b - n)) (refused 20 [])
+abbrev pub inRange : Word → Answer ℕ
+inRange (word t) = given t
+inRange outside = refused 20 []
 
-unfoldable pub seek : RunList → Reader → From → Amount → Answer Reader
-seek L r f a = then (target (base (r .place) (r .size) f) a) (seekTo L r)
+unfoldable pub target : ℕ → ℤ → Answer ℕ
+target b z = inRange (withinℤ (pos b +ℤ z))
+
+unfoldable pub seek : RunList → Reader → From → ℤ → Answer Reader
+seek L r f z = then (target (base (r .place) (r .size) f) z) (seekTo L r)
 
 -- READ: the spans, how many bytes they are, the reader afterwards.
 pub record Span : Type 0 where
@@ -120,27 +120,42 @@ nothing r = record { spans = []; bytes = 0; reader = r }
 abbrev pub before : Span → Reading → Reading
 before x g = record { spans = x ∷ g .spans; bytes = x .length + g .bytes; reader = g .reader }
 
--- A span of the run where s stands, the least of the three remainders w, run and data, and what follows it. A refused run is a stop there.
-unfoldable pub give : (ℕ → Reader → Answer Reading) → ℕ → Reader → Stand → Reading
-give rest w r s =
+-- What comes next of a read: it stops, it gives a span, or the run that it needs is refused.
+pub data Turn : Type 0 where
+  stops : Reader → Turn
+  gives : Span → Reader → Turn
+  refuses : ℕ → List ℤ → Turn
+
+-- A span of the run where s stands: the least of the three remainders, w, run and data.
+unfoldable pub give : ℕ → Reader → Stand → Turn
+give w r s =
     let n = min w (min (left s) (r .size - r .place)) in
-    let r′ : Reader = record { stand = moved s n; place = r .place + n; size = r .size } in
-    before (record { place = here (s .current) (s .displacement); length = n }) (either (rest (w - n) r′) (λ g. g) (nothing r′))
+    gives (record { place = here (s .current) (s .displacement); length = n }) (record { stand = moved s n; place = r .place + n; size = r .size })
 
--- The next run is fetched. List over is a stop, with the cursor at the list's length and the current run kept; a refused run is a refusal.
-unfoldable pub fetch : RunList → Reader → (Stand → Reading) → Step → Answer Reading
-fetch L r go over = given (nothing (record { stand = atEnd L (r .stand .lcn) (r .stand .current) (r .stand .displacement); place = r .place; size = r .size }))
-fetch L r go (found x a l) = given (go (entered x a l))
-fetch L r go (faulty k v) = refused k v
+-- The next run is fetched. List over is a stop, with the cursor at the list's length and the current run kept.
+unfoldable pub fetch : RunList → ℕ → Reader → Step → Turn
+fetch L w r over = stops (record { stand = atEnd L (r .stand .lcn) (r .stand .current) (r .stand .displacement); place = r .place; size = r .size })
+fetch L w r (found x a l) = give w r (entered x a l)
+fetch L w r (faulty k v) = refuses k v
 
--- Room for so many spans, w bytes: stops if w is reached, the room used up, or the place at or past the data size.
+-- It stops if w is reached or the place is at or past the data size; if the current run is none or used up it fetches the next.
+unfoldable pub turn : RunList → ℕ → Reader → Turn
+turn L w r =
+    pick (eqb w 0) (stops r)
+    (pick (leb (r .size) (r .place)) (stops r)
+    (pick (ltb 0 (left (r .stand))) (give w r (r .stand))
+    (fetch L w r (L .step (r .stand .cursor) (r .stand .lcn)))))
+
+-- A refused run refuses the read; after a span it is a stop.
+unfoldable pub follow : (ℕ → Reader → Answer Reading) → ℕ → Turn → Answer Reading
+follow rest w (stops r) = given (nothing r)
+follow rest w (gives x r) = given (before x (either (rest (w - x .length) r) (λ g. g) (nothing r)))
+follow rest w (refuses k v) = refused k v
+
+-- Of w bytes, with room for so many spans.
 unfoldable pub read : RunList → ℕ → ℕ → Reader → Answer Reading
 read L zero w r = given (nothing r)
-read L (suc room) w r =
-    pick (eqb w 0) (given (nothing r))
-    (pick (leb (r .size) (r .place)) (given (nothing r))
-    (pick (ltb 0 (left (r .stand))) (given (give (read L room) w r (r .stand)))
-    (fetch L r (give (read L room) w r) (L .step (r .stand .cursor) (r .stand .lcn)))))
+read L (suc room) w r = follow (read L room) w (turn L w r)
 
 -- DATA POSITION: run place plus displacement, or none in a hole or without a run.
 pub data Position : Type 0 where
@@ -153,42 +168,3 @@ positionOf hole = nowhere
 
 abbrev pub dataPosition : Reader → Position
 dataPosition r = positionOf (here (r .stand .current) (r .stand .displacement))
-
--- The bytes that spans name, one by one.
-unfoldable pub upto : {A : Type 0} → (ℕ → A) → ℕ → List A
-upto f zero = []
-upto f (suc n) = f 0 ∷ upto (λ i. f (suc i)) n
-
-unfoldable pub expand : List Span → List Where
-expand [] = []
-expand (x ∷ xs) = upto (byte (x .place)) (x .length) ++ expand xs
-
--- HISTORY: the reader, and the place that the calls so far say. An accepted seek puts it at its target, a read adds its byte count,
--- a refusal adds nothing and leaves the reader.
-pub data Call : Type 0 where
-  seeks : From → Amount → Call
-  reads : ℕ → ℕ → Call
-
-unfoldable pub after : RunList → ℕ → Reader × ℕ → Call → Reader × ℕ
-after L size h (seeks f a) = either (seek L (h .0) f a) (λ r. (r, either (target (base (h .1) size f) a) (λ t. t) (h .1))) h
-after L size h (reads w room) = either (read L room w (h .0)) (λ g. (g .reader, h .1 + g .bytes)) h
-
-unfoldable pub history : RunList → ℕ → Reader × ℕ → List Call → Reader × ℕ
-history L size h [] = h
-history L size h (c ∷ cs) = history L size (after L size h c) cs
-
--- WHAT DEMAND 3 SPEAKS OF: the bytes that the lookup rule names from p on; how much of w bytes a read at place p of z bytes can name,
--- which is the least of w, the data left and the covered bytes left; the sum of the spans; that none is empty.
-abbrev pub bytesAt : RunList → ℕ → ℕ → List Where
-bytesAt L p n = upto (λ i. lookup (list L) (p + i)) n
-
-unfoldable pub amount : RunList → ℕ → ℕ → ℕ → ℕ
-amount L p z w = min w (min (z - p) (covered (list L) - p))
-
-unfoldable pub total : List Span → ℕ
-total [] = 0
-total (x ∷ xs) = x .length + total xs
-
-abbrev pub NoneEmpty : List Span → Type 0
-NoneEmpty [] = Unit
-NoneEmpty (x ∷ xs) = (0 < x .length) × NoneEmpty xs

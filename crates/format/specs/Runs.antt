@@ -1,6 +1,6 @@
 -- Run lists: what stands at a cursor of a list after a previous LCN, with refusals 13 to 19 in their order, each its number and its
 -- values. The cursor given is the refused run's header.
-use Prim.Native.Nat.{ℕ, _+_, _-_, _*_, _/_, _%_, _^_}
+use Prim.Native.Nat.{ℕ, _+_, _-_, _*_, _/_, _%_, _^_, _<_}
 use mathlib.Core.Bool.{Bool, true, false, not}
 use mathlib.Core.List.{List, [], _∷_}
 use lib.ListN.{length, getD}
@@ -33,6 +33,11 @@ isHole n (negsuc d) to = eqb to 0
 -- rule 19: a disk run ends inside
 unfoldable pub ends : ℕ → ℕ → Bool
 ends p size = ltb (p + size) (2 ^ 64)
+
+-- the same of a place: nothing is asked of a hole
+abbrev pub Inside : Place → ℕ → Type 0
+Inside (disk p) size = p + size < 2 ^ 64
+Inside hole size = Unit {0}
 
 module _ (cluster at : ℕ) where
   -- at a place: 18, 19

@@ -1,8 +1,5 @@
 -- This crate's answer in the format's terms; no second answer is shown alike.
-use Prim.Native.Nat.{ℕ, _+_, _^_, _<_}
 use mathlib.Core.Path.{_≡_, refl, sym, ap, _∙_}
-use Rattle.format.specs.Runs.{Place}
-use Rattle.format.specs.Runs.Place.{disk, hole}
 use Rattle.format.specs.Listed.{Where as W}
 use Rattle.refusal.specs.Refusals.{number, values, refusalBack, refusal-back}
 use Rattle.lookup.specs.declared.Found.{Found}
@@ -13,11 +10,6 @@ shown (F.Disk p) = W.position p
 shown F.Hole = W.inHole
 shown F.NotCovered = W.notCovered
 shown (F.Refused x) = W.unknown (number x) (values x)
-
--- an offset from a disk place on fits a word
-abbrev pub Fits : Place → ℕ → Type 0
-Fits (disk p) o = p + o < 2 ^ 64
-Fits hole o = Unit {0}
 
 pub back : W → Found
 back (W.position p) = F.Disk p

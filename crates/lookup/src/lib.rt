@@ -5,9 +5,10 @@ use data_runs::Place;
 use refusal::Refusal;
 ghost use mathlib.Core.Path.{_≡_};
 ghost use Prim.Native.Nat.{_+_, _<_, _^_};
+ghost use Rattle.format.specs.Runs.{Inside};
 ghost use Rattle.format.specs.Listed.{byte, lookup, listed, runList, listFits, lookedUp};
 ghost use Rattle.data_runs.specs.Shown.{shownPlace};
-ghost use Rattle.lookup.specs.Shown.{shown, Fits};
+ghost use Rattle.lookup.specs.Shown.{shown};
 
 pub enum Found {
     Disk(u64),
@@ -26,7 +27,7 @@ fn list_fits(n: usize) -> bool
 
 // An offset inside a run.
 fn within(place: Place, offset: u64) -> Found
-    requires { ⌜ Fits (shownPlace place) offset ⌝ }
+    requires { ⌜ Inside (shownPlace place) offset ⌝ }
     ensures { λ r. ⌜ shown r ≡ byte (shownPlace place) offset ⌝ }
 {
     match place {

@@ -49,23 +49,7 @@ impl Lcn {
     pub fn moved(self, delta: Delta) -> Word
         ensures { λ r. ⌜ shownWord r ≡ withinℤ (pos (self .0) +ℤ toℤ delta) ⌝ }
     {
-        let lcn = self.0;
-        match delta {
-            Delta::Up(n) => {
-                if n <= 0xffff_ffff_ffff_ffff - lcn {
-                    Word::Is(lcn + n)
-                } else {
-                    Word::Out
-                }
-            }
-            Delta::Down(n) => {
-                if n < lcn {
-                    Word::Is(lcn - n - 1)
-                } else {
-                    Word::Out
-                }
-            }
-        }
+        sum(self.0, delta)
     }
 
     // The byte position of the LCN's first byte.
@@ -73,6 +57,28 @@ impl Lcn {
         ensures { λ r. ⌜ shownWord r ≡ within (self .0 * cluster) ⌝ }
     {
         times(self.0, cluster)
+    }
+}
+
+// A number plus a signed one.
+pub fn sum(base: u64, delta: Delta) -> Word
+    ensures { λ r. ⌜ shownWord r ≡ withinℤ (pos base +ℤ toℤ delta) ⌝ }
+{
+    match delta {
+        Delta::Up(n) => {
+            if n <= 0xffff_ffff_ffff_ffff - base {
+                Word::Is(base + n)
+            } else {
+                Word::Out
+            }
+        }
+        Delta::Down(n) => {
+            if n < base {
+                Word::Is(base - n - 1)
+            } else {
+                Word::Out
+            }
+        }
     }
 }
 

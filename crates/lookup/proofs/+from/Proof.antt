@@ -6,10 +6,9 @@ use borrow.Author.Needs.{needs}
 use borrow.Author.Tests.{lt-ltb, le-ltb}
 use lib.ListN.{length}
 use Rattle.format.specs.Pick.{pick-yes, pick-no}
-use Rattle.format.proofs.Runs.{found-inside, lawful}
+use Rattle.format.proofs.Runs.{found-inside, inside-less, lawful}
 use Rattle.format.proofs.Listed.{lookup-over, lookup-found, lookup-faulty}
 use Rattle.data_runs.specs.Shown.{shown, shownPlace}
-use Rattle.lookup.proofs.Inside.{inside-fits}
 use borrow.Fn.Kinds.{In}
 use borrow.Fn.PlainCycle.{Measures, is, falls, and}
 use Rattle.lookup.proofs.from.Reads as from
@@ -57,7 +56,7 @@ from-within-requires : (t : ℕ) → from-lts.Need-within-requires (
   from-below t,
   from.Post,
 ) (from-at t) from.Post
-from-within-requires t c κs = let a = c .before .before .before .before .before .before in let r = c .before .before .run .given in inside-fits (shownPlace (r .0 .0 .place)) (r .0 .0 .size) (a .args .offset) (found-inside _ _ _ _ _ _ _ (a .pre .1) (sym (c .before .before .before .before .decode .ensures) ∙ ap shown (c .before .before .run .given .1))) (c .if1 .taken)
+from-within-requires t c κs = let a = c .before .before .before .before .before .before in let r = c .before .before .run .given in inside-less (shownPlace (r .0 .0 .place)) (r .0 .0 .size) (a .args .offset) (found-inside _ _ _ _ _ _ _ (a .pre .1) (sym (c .before .before .before .before .decode .ensures) ∙ ap shown (c .before .before .run .given .1))) (omega (arith, c .if1 .taken))
 
 from-from-requires : (t : ℕ) → from-lts.Need-from-requires (
   decode-reads.Asked,
