@@ -11,7 +11,7 @@ use types::Lcn;
 use types::Word;
 
 pub fn sample() {
-    say(b"A boot sector that is built in; 'archthimble help' says what else there is.\n\n");
+    say(b"A boot sector that is built in:\n\n");
     let sector = samples::boot();
     whole(&sector);
 }

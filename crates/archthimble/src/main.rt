@@ -4,6 +4,7 @@ mod files;
 mod names;
 mod records;
 mod runs;
+mod spans;
 mod table;
 mod text;
 mod words;
@@ -11,17 +12,16 @@ mod words;
 use text::say;
 
 fn usage() {
-    say(b"archthimble                 reads a boot sector that is built in\n");
     say(
-        b"archthimble boot FILE       the geometry of a boot sector, or of a disk image's first 512 bytes\n",
+        b"archthimble                  reads a stretch of a stream that is built in
+archthimble boot [FILE]      the geometry of a boot sector, or of a disk image's first 512 bytes
+archthimble record FILE      repairs a copy of a file record or index record, and says what was found
+archthimble runs LIST SIZE   the runs of a list in hex, as '11 02 0A 00', at a cluster size in bytes
+archthimble spans LIST CLUSTER SIZE OFFSET LENGTH
+                             where LENGTH bytes from OFFSET on lie, in a stream of SIZE bytes
+archthimble help             this
+",
     );
-    say(
-        b"archthimble record FILE     repairs a copy of a file record or index record, and says what was found\n",
-    );
-    say(
-        b"archthimble runs LIST SIZE  the runs of a list in hex, as '11 02 0A 00', at a cluster size in bytes\n",
-    );
-    say(b"archthimble help            this\n");
 }
 
 fn unknown(word: &[u8]) {
@@ -43,6 +43,10 @@ fn one_file(words: usize) -> bool {
 
 fn command(word: &[u8], words: usize) {
     if check::same(word, b"boot") {
+        if words == 2 {
+            boot::sample();
+            return;
+        }
         if one_file(words) {
             boot::file();
         }
@@ -64,6 +68,16 @@ fn command(word: &[u8], words: usize) {
         );
         return;
     }
+    if check::same(word, b"spans") {
+        if words == 7 {
+            spans::typed();
+            return;
+        }
+        say(
+            b"That takes a list in hex and four numbers, as in: archthimble spans '11 02 0A 00' 512 1000 0 1000\n",
+        );
+        return;
+    }
     if check::same(word, b"help") {
         usage();
         return;
@@ -74,7 +88,7 @@ fn command(word: &[u8], words: usize) {
 fn main() {
     let words = os::arg_count();
     if words < 2 {
-        boot::sample();
+        spans::sample();
         return;
     }
     let mut word = io::buffer();

@@ -68,6 +68,7 @@ fn of_runs(n: u64) {
         ),
         18 => say(b"run place: the place of the run at the byte given is over 2^64 - 1.\n"),
         19 => say(b"run end: the end of the run at the byte given is over 2^64 - 1.\n"),
+        20 => say(b"seek target: the place to seek is below 0 or over 2^64 - 1.\n"),
         21 => say(b"unsound: the cluster size must be a power of two from 512 to 2097152.\n"),
         22 => say(b"list length: a list to look up in has 4096 bytes at most.\n"),
         _ => {}

@@ -19,29 +19,14 @@ struct Walk {
 }
 
 pub fn typed() {
-    let mut text = io::buffer();
-    let n = os::arg(2, &mut text);
-    if os::errno() != 0 {
-        os::fail(b"the list");
-        return;
-    }
     let mut list = io::buffer();
-    let got = words::hex(&text[..n], &mut list);
-    if !got.good {
-        say(b"The list must be bytes in hex, as in: archthimble runs '11 02 0A 00' 512\n");
-        return;
+    let got = words::list(&mut list);
+    let cluster = words::typed(3);
+    if got.good {
+        if cluster.good {
+            part(&list, got.n, cluster.value);
+        }
     }
-    let cluster = cluster_of();
-    let k = got.n;
-    part(&list, k, cluster);
-}
-
-// The cluster size that was typed, or 0, which no list is decoded with.
-fn cluster_of() -> u64 {
-    let mut text = io::buffer();
-    let n = os::arg(3, &mut text);
-    let x = words::decimal(&text[..n]);
-    if x.good { x.value } else { 0 }
 }
 
 fn part(list: &[u8], n: usize, cluster: u64) {
@@ -50,7 +35,7 @@ fn part(list: &[u8], n: usize, cluster: u64) {
     }
 }
 
-pub fn show(list: &[u8], cluster: u64) {
+fn show(list: &[u8], cluster: u64) {
     say(b"              header                size  place\n");
     let mut w = Walk {
         at: 0,
@@ -63,7 +48,7 @@ pub fn show(list: &[u8], cluster: u64) {
         w = onward(w, list, cluster);
         turns = turns - 1;
     }
-    bar(list, cluster, w.total);
+    bar(list, cluster, 0, w.total);
 }
 
 fn onward(w: Walk, list: &[u8], cluster: u64) -> Walk {
@@ -119,26 +104,55 @@ fn line(at: usize, run: Run) {
     table::aligned(run.size);
     let p = run.place;
     match p {
-        Place::Disk(place) => {
-            say(b"  byte ");
-            text::number(place);
-            say(b"\n");
-        }
-        Place::Hole => say(b"  hole\n"),
+        Place::Disk(place) => on_disk(place),
+        Place::Hole => in_hole(),
     }
 }
 
-// Sixty marks from the stream's start to its end: # lies on the disk, . in a hole.
-fn bar(list: &[u8], cluster: u64, total: u64) {
-    if total == 0 {
+pub fn on_disk(place: u64) {
+    say(b"  byte ");
+    text::number(place);
+    say(b"\n");
+}
+
+pub fn in_hole() {
+    say(b"  hole\n");
+}
+
+// Where a mark of the bar stands: a place in the stream, and sixtieths of a byte.
+struct Spot {
+    offset: u64,
+    part: u64,
+}
+
+// A sixtieth of the whole further on.
+fn onto(m: Spot, total: u64) -> Spot {
+    let part = std::num::wrapping_add_u64(m.part, total % 60);
+    let offset = std::num::wrapping_add_u64(m.offset, total / 60);
+    if part < 60 {
+        return Spot { offset, part };
+    }
+    Spot {
+        offset: std::num::wrapping_add_u64(offset, 1),
+        part: part - 60,
+    }
+}
+
+// Sixty marks from one place in the stream to another: # lies on the disk, . in a hole.
+pub fn bar(list: &[u8], cluster: u64, from: u64, to: u64) {
+    if to <= from {
         return;
     }
+    let total = to - from;
     say(b"[");
-    let mut offset: u64 = 0;
+    let mut m = Spot {
+        offset: from,
+        part: 0,
+    };
     let mut left: u64 = 60;
     while 0 < left {
-        mark(list, cluster, offset);
-        offset = std::num::wrapping_add_u64(offset, total / 60);
+        mark(list, cluster, m.offset);
+        m = onto(m, total);
         left = left - 1;
     }
     say(b"] ");

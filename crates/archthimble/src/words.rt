@@ -1,4 +1,7 @@
 // Numbers and bytes as they are typed: a decimal number, and bytes in hex with or without blanks between them.
+use crate::text;
+use text::say;
+
 pub struct Bytes {
     pub n: usize,
     // the first digit of a byte that is not whole yet, or 16
@@ -108,4 +111,48 @@ pub fn decimal(text: &[u8]) -> Number {
         i = i + 1;
     }
     x
+}
+
+// The list that is typed behind the command, into `out`; where it isn't one, it says so.
+pub fn list(out: &mut [u8]) -> Bytes {
+    let mut text = io::buffer();
+    let n = os::arg(2, &mut text);
+    if os::errno() != 0 {
+        os::fail(b"the list");
+        return Bytes {
+            n: 0,
+            high: 16,
+            good: false,
+        };
+    }
+    let got = hex(&text[..n], out);
+    if !got.good {
+        say(b"The list must be bytes in hex, as in: '11 02 0A 00'\n");
+    }
+    got
+}
+
+// The number that is typed as word i; where it isn't one, it says so.
+pub fn typed(i: usize) -> Number {
+    let mut text = io::buffer();
+    let n = os::arg(i, &mut text);
+    let x = decimal(&text[..n]);
+    if !x.good {
+        say(&text[..n]);
+        say(b": this must be a number from 0 to 18446744073709551615, in digits.\n");
+    }
+    x
+}
+
+pub fn all_good(a: Number, b: Number, c: Number, d: Number) -> bool {
+    if !a.good {
+        return false;
+    }
+    if !b.good {
+        return false;
+    }
+    if !c.good {
+        return false;
+    }
+    d.good
 }

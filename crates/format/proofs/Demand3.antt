@@ -11,7 +11,7 @@ use Rattle.format.specs.Number.{Word, within, withinℤ, clusterSound}
 use Rattle.format.specs.Number.Word.{word, outside}
 use Rattle.format.specs.Runs.{Run, Inside}
 use Rattle.format.specs.Runs.Step.{found}
-use Rattle.format.specs.Listed.{Answer, then, either, RunList, runList, Lawful, Listed, list, ToItsEnd}
+use Rattle.format.specs.Listed.{Answer, Gives, IfGiven, then, either, RunList, runList, Lawful, Listed, list, ToItsEnd}
 use Rattle.format.specs.Listed.Answer.{given, refused}
 use Rattle.format.specs.Listed.Listed.{ends, run, breaks}
 use Rattle.format.specs.Reader.{Stand, Reader, settle, at, opened, seekTo, From, base, inRange, target, seek, Reading, read}
@@ -19,12 +19,12 @@ use Rattle.format.specs.Reader.From.{fromStart}
 use Rattle.format.specs.Calls.{Held, hold, opening, seeking, reading}
 use Rattle.format.specs.History.{Call, after, history}
 use Rattle.format.specs.History.Call.{seeks, reads}
-use Rattle.format.specs.Demand3.{Gives, Named, Demand3, Demand}
+use Rattle.format.specs.Demand3.{Named, Demand3, Demand}
 use native.Mathlib.Nat.{zero-add}
 use Rattle.format.proofs.Numbers.{within-is}
 use Rattle.format.proofs.Powers.{sound-bounds}
 use Rattle.format.proofs.Runs.{lawful, found-inside}
-use Rattle.format.proofs.Reader.{Holds, At, Outcome, runsAt-most, opened-is, seek-case, settle-at, read-at}
+use Rattle.format.proofs.Reader.{At, Outcome, runsAt-most, opened-is, seek-case, settle-at, read-at}
 use Rattle.format.proofs.Sound.{Good, good-sound, opened-good, seek-good, read-good}
 
 -- A target in range is in range from the start too.
@@ -86,17 +86,17 @@ module _ (cluster : ℕ) (s : List ℕ) (c : clusterSound cluster ≡ true) wher
   open-is z = pick-no _ _ (ap not c)
 
   -- Opening, every call and every history leave such a reader.
-  held-since : (p z : ℕ) (x : Answer Reader) → Holds (At L p z) x → Holds (λ r. Good (L .fin) (r .stand)) x → Holds (Since p z) (hold cluster x)
+  held-since : (p z : ℕ) (x : Answer Reader) → IfGiven (At L p z) x → IfGiven (λ r. Good (L .fin) (r .stand)) x → IfGiven (Since p z) (hold cluster x)
   held-since p z (given r) t g = record { cluster-is = refl; tracks = t; stands = g }
   held-since p z (refused k v) t g = tt
 
-  pub open-since : (z : ℕ) → Holds (Since 0 z) (opening cluster s z)
+  pub open-since : (z : ℕ) → IfGiven (Since 0 z) (opening cluster s z)
   open-since z = rw (open-is z) (held-since 0 z (opened L z) (rw (opened-is L z) (settle-at L good 0 z)) (opened-good L good inside z))
 
-  seek-since : (p z : ℕ) (h : Held) → Since p z h → (x : Answer ℕ) → Holds (Since (either x (λ t. t) p) z) (hold cluster (then x (seekTo L (h .reader))))
+  seek-since : (p z : ℕ) (h : Held) → Since p z h → (x : Answer ℕ) → IfGiven (Since (either x (λ t. t) p) z) (hold cluster (then x (seekTo L (h .reader))))
   seek-since p z h i (given t) =
       held-since t z (seekTo L (h .reader) t)
-      (seek-case L p z t (h .reader) (i .tracks) (Holds (At L t z)) (λ e. rw e (i .tracks)) (settle-at L good t z))
+      (seek-case L p z t (h .reader) (i .tracks) (IfGiven (At L t z)) (λ e. rw e (i .tracks)) (settle-at L good t z))
       (seek-good L good inside (h .reader) (given t) (i .stands))
   seek-since p z h i (refused k v) = tt
 
@@ -106,14 +106,14 @@ module _ (cluster : ℕ) (s : List ℕ) (c : clusterSound cluster ≡ true) wher
       let x = target (base (h .1) z f) a in
       rw (seek-is (h .1) z (h .0) i f a) (go (either x (λ t. t) (h .1)) (hold cluster (then x (seekTo L (h .0 .reader)))) (seek-since (h .1) z (h .0) i x))
     where
-      go : (to : ℕ) (x : Answer Held) → Holds (Since to z) x → Since (either x (λ k. (k, to)) h .1) z (either x (λ k. (k, to)) h .0)
+      go : (to : ℕ) (x : Answer Held) → IfGiven (Since to z) x → Since (either x (λ k. (k, to)) h .1) z (either x (λ k. (k, to)) h .0)
       go to (given k) o = o
       go to (refused k v) o = i
   call-since z h (reads w store) i =
       let room = length store / 3 in
       rw (read-is (h .1) z (h .0) i w store) (go (read L room w (h .0 .reader)) (read-at L good (h .1) z w room (h .0 .reader) (i .tracks)) (read-good L good inside room w (h .0 .reader) (i .stands)))
     where
-      go : (x : Answer Reading) → Outcome L (h .1) z w (length store / 3) x → Holds (λ g. Good (L .fin) (g .reader .stand)) x → Since (either x (λ g. (record { cluster = h .0 .cluster; reader = g .reader }, h .1 + g .bytes)) h .1) z (either x (λ g. (record { cluster = h .0 .cluster; reader = g .reader }, h .1 + g .bytes)) h .0)
+      go : (x : Answer Reading) → Outcome L (h .1) z w (length store / 3) x → IfGiven (λ g. Good (L .fin) (g .reader .stand)) x → Since (either x (λ g. (record { cluster = h .0 .cluster; reader = g .reader }, h .1 + g .bytes)) h .1) z (either x (λ g. (record { cluster = h .0 .cluster; reader = g .reader }, h .1 + g .bytes)) h .0)
       go (given g) o k = record { cluster-is = i .cluster-is; tracks = o .reader; stands = k }
       go (refused k v) o n = i
 
@@ -151,7 +151,7 @@ module _ (cluster : ℕ) (s : List ℕ) (c : clusterSound cluster ≡ true) wher
       goes = λ f a t q. rw (seek-is p z h i f a, q) (seek-case L p z t (h .reader) (i .tracks) (λ x. Gives (λ h′. h′ .reader .place ≡ t) (hold cluster x)) (λ y. i .tracks .place ∙ sym y) (placed t (settle L (list L) t) (settle-gives L (list L) t end)));
     }
 
-    opens : (x : Answer Held) → opening cluster s z ≡ x → Holds (Since 0 z) x → Gives (λ new. (calls : List Call) → let h = history s z (new, 0) calls in Demand3 L s z new (h .0) (h .1)) x
+    opens : (x : Answer Held) → opening cluster s z ≡ x → IfGiven (Since 0 z) x → Gives (λ new. (calls : List Call) → let h = history s z (new, 0) calls in Demand3 L s z new (h .0) (h .1)) x
     opens (given new) e i = λ calls. asked new e i (history s z (new, 0) calls .0) (history s z (new, 0) calls .1) (history-since z (new, 0) calls i)
     opens (refused k v) e i = subst (Gives (λ h. h .reader .place ≡ 0)) (sym (ap (hold cluster) (opened-is L z)) ∙ sym (open-is z) ∙ e) (placed 0 (settle L (list L) 0) (settle-gives L (list L) 0 end))
 

@@ -8,3 +8,4 @@ pub mod Listed
 pub mod Reader
 pub mod Sound
 pub mod Demand3
+pub mod Laws

@@ -11,7 +11,7 @@ use borrow.Author.Tests.{leb-true, leb-false, eqb-true, eqb-false, lt-ltb, le-lt
 use Rattle.format.specs.Pick.{pick, pick-yes, pick-no, pick-all, pick-lt, same-test}
 use Rattle.format.specs.Listed.{Lawful}
 use Rattle.format.proofs.Listed.{listed-rule, listed-at}
-use Rattle.format.specs.Listed.{Answer, then, either, RunList, Listed, unroll, listed, list, runs, covered, Where, byte, lookup}
+use Rattle.format.specs.Listed.{Answer, IfGiven, then, either, RunList, Listed, unroll, listed, list, runs, covered, Where, byte, lookup}
 use Rattle.format.specs.Listed.Answer.{given, refused}
 use Rattle.format.specs.Runs.{Place, Run, Step}
 use Rattle.format.specs.Runs.Place.{disk, hole}
@@ -21,11 +21,7 @@ use Rattle.format.specs.Listed.Where.{position, notCovered, unknown}
 use Rattle.format.specs.Reader.{Current, Stand, Reader, start, entered, atEnd, leftOf, left, moved, settle, forward, at, opened, seekTo, Reading, further, here, nothing, before, Turn, give, fetch, turn, follow, read}
 use Rattle.format.specs.History.{upto, expand, bytesAt, amount, total, NoneEmpty}
 use Rattle.format.specs.Reader.Current.{none, some}
-
--- What holds of an answer that is no refusal.
-abbrev pub Holds : {A : Type 0} → (A → Type 0) → Answer A → Type 0
-Holds P (given a) = P a
-Holds P (refused k v) = Unit
+use Rattle.format.specs.Reader.Turn.{stops}
 
 -- How many runs lie from offset p on.
 pub runsAt : Listed → ℕ → ℕ
@@ -123,6 +119,17 @@ module _ (L : RunList) where
           rw (le-ltb (p + left s) (r .size) (omega arith), le-ltb p (r .size) h, q, c) i
       go h (refused k v) i = omega arith
   settle-left (breaks k v) p = omega arith
+
+  -- A TURN: nothing is asked or nothing is left of the data; a span of the current run; the next run fetched.
+  pub turn-all : (P : Turn → Type 0) (w : ℕ) (r : Reader) → (min w (r .size - r .place) ≡ 0 → P (stops r))
+      → (0 < w → r .place < r .size → 0 < left (r .stand) → P (give w r (r .stand)))
+      → (0 < w → r .place < r .size → left (r .stand) ≡ 0 → P (fetch L w r (L .step (r .stand .cursor) (r .stand .lcn))))
+      → P (turn L w r)
+  unfolding turn
+  turn-all P w r none-left in-run behind =
+      pick-all P (eqb w 0) _ _ (λ y. let h = eqb-true w 0 y in none-left (omega arith)) (λ y. let hw = eqb-false w 0 y in
+      pick-all P (leb (r .size) (r .place)) _ _ (λ y. let h = leb-true (r .size) (r .place) y in none-left (omega arith)) (λ y. let hp = leb-false (r .size) (r .place) y in
+      pick-lt P 0 (left (r .stand)) _ _ (λ h. in-run (omega arith) hp h) (λ h. behind (omega arith) hp (omega arith))))
 
   -- GOING FORWARD: inside the current run; after a move; with nothing left of the current run.
   pub forward-in : (s : Stand) (n : ℕ) → n < left s → forward L s n ≡ given (moved s n)
@@ -265,10 +272,10 @@ module _ (L : RunList) where
     settle-add (breaks k v) a l e m n = refl
 
     -- Who settles at t tracks the list there.
-    pub settle-at : (t z : ℕ) → Holds (At t z) (at t z (settle L (list L) t))
+    pub settle-at : (t z : ℕ) → IfGiven (At t z) (at t z (settle L (list L) t))
     settle-at t z = go (settle L (list L) t) refl
       where
-        go : (x : Answer Stand) → settle L (list L) t ≡ x → Holds (At t z) (at t z x)
+        go : (x : Answer Stand) → settle L (list L) t ≡ x → IfGiven (At t z) (at t z x)
         go (given s) e = record { tracks = λ n. ap (λ x. then x (λ s. forward L s n)) (sym e) ∙ settle-add (list L) 0 0 refl t n; place = refl; size = refl }
         go (refused k v) e = tt
 
@@ -300,17 +307,14 @@ module _ (L : RunList) where
 
     -- EVERY READ of a reader that tracks the list.
     every-read : (room : ℕ) → AllReads room
-    unfolding read turn follow amount
+    unfolding read follow amount
     every-read zero w r tk = stop (r .place) (r .size) w zero r (record { tracks = tk; place = refl; size = refl }) (λ h. amount-none (r .place) (r .size) w (runsAt-none (list L) (r .place) (omega arith)))
     every-read (suc room) w r tk =
         let s = r .stand in
-        let O : Turn → Type 0 = λ t. Outcome (r .place) (r .size) w (suc room) (follow (read L room) w t) in
-        let halt : amount L (r .place) (r .size) w ≡ 0 → Reads (r .place) (r .size) w (suc room) (nothing r) = λ h. stop (r .place) (r .size) w (suc room) r (record { tracks = tk; place = refl; size = refl }) (λ e. h) in
-        pick-all O (eqb w 0) _ _ (λ y. let h = eqb-true w 0 y in halt (omega arith)) (λ y. let hw = eqb-false w 0 y in
-        pick-all O (leb (r .size) (r .place)) _ _ (λ y. let h = leb-true (r .size) (r .place) y in halt (omega arith)) (λ y. let hp = leb-false (r .size) (r .place) y in
-        pick-lt O 0 (left s) _ _ (λ h. gives room (every-read room) w r s (omega arith) hp h tk)
-        (λ h. let z : left s ≡ 0 = omega arith in
-        fetches room (every-read room) w r (omega arith) hp z (L .step (s .cursor) (s .lcn)) refl (λ n. ap (λ d. settle L d n) (sym (listed-rule L good (s .cursor) (s .lcn))) ∙ sym (forward-used s n z) ∙ tk n))))
+        turn-all (λ t. Outcome (r .place) (r .size) w (suc room) (follow (read L room) w t)) w r
+        (λ h. stop (r .place) (r .size) w (suc room) r (record { tracks = tk; place = refl; size = refl }) (λ e. omega arith))
+        (λ hw hp hl. gives room (every-read room) w r s hw hp hl tk)
+        (λ hw hp z. fetches room (every-read room) w r hw hp z (L .step (s .cursor) (s .lcn)) refl (λ n. ap (λ d. settle L d n) (sym (listed-rule L good (s .cursor) (s .lcn))) ∙ sym (forward-used s n z) ∙ tk n))
 
     pub read-at : (p z w room : ℕ) (r : Reader) → At p z r → Outcome p z w room (read L room w r)
     read-at p z w room r t = subst (λ x. Outcome p x w room (read L room w r)) (t .size) (subst (λ x. Outcome x (r .size) w room (read L room w r)) (t .place) (every-read room w r (rw (t .place) (t .tracks))))

@@ -12,7 +12,7 @@ use Rattle.format.specs.Number.{clusterSound}
 use Rattle.format.specs.Runs.{Place, Run, Step, ends, Inside}
 use Rattle.format.specs.Runs.Place.{disk, hole}
 use Rattle.format.specs.Runs.Step.{over, found, faulty}
-use Rattle.format.specs.Listed.{Answer, then, either, RunList, Lawful, Listed, unroll, listedBy, listed}
+use Rattle.format.specs.Listed.{Answer, IfGiven, then, either, RunList, Lawful, Listed, unroll, listedBy, listed}
 use Rattle.format.specs.Listed.Answer.{given, refused}
 use Rattle.format.specs.Listed.Listed.{ends as ended, run, breaks}
 use Rattle.format.specs.Reader.{Current, Stand, Reader, start, entered, leftOf, left, settle, forward, at, opened, seekTo, Reading, Turn, nothing, give, fetch, turn, follow, read}
@@ -20,7 +20,7 @@ use Rattle.format.specs.Reader.Current.{none, some}
 use Rattle.format.specs.Reader.Turn.{stops, gives, refuses}
 use Rattle.format.specs.Calls.{Held, placeSound, currentSound, sound, soundIn}
 use Rattle.format.proofs.Powers.{sound-bounds}
-use Rattle.format.proofs.Reader.{Holds}
+use Rattle.format.proofs.Reader.{turn-all}
 
 -- SOUND in words that proofs use: a stand in a list of so many bytes.
 abbrev pub FitsIn : Current → ℕ → Type 0
@@ -103,17 +103,17 @@ module _ (L : RunList) (good : Lawful L) (within : (a l : ℕ) (r : Run) (a′ l
       go (found r a′ l′) e more = (found-good a l r a′ l′ e, more a′ l′)
       go (faulty k v) e more = tt
 
-  settle-good : (d : Listed) (n : ℕ) → AllGood d → Holds (Good (L .fin)) (settle L d n)
+  settle-good : (d : Listed) (n : ℕ) → AllGood d → IfGiven (Good (L .fin)) (settle L d n)
   unfolding settle
   settle-good (ended l) n h = record { inside = omega arith; fits = refl }
-  settle-good (run r a l rest) n h = pick-lt (Holds (Good (L .fin))) n (r .size) _ _
+  settle-good (run r a l rest) n h = pick-lt (IfGiven (Good (L .fin))) n (r .size) _ _
       (λ k. record { inside = h .0 .inside; fits = (omega arith, h .0 .fits .1) })
       (λ k. settle-good rest (n - r .size) (h .1))
   settle-good (breaks k v) n h = tt
 
-  pub forward-good : (s : Stand) (n : ℕ) → Good (L .fin) s → Holds (Good (L .fin)) (forward L s n)
+  pub forward-good : (s : Stand) (n : ℕ) → Good (L .fin) s → IfGiven (Good (L .fin)) (forward L s n)
   unfolding forward listed
-  forward-good s n g = pick-lt (Holds (Good (L .fin))) n (left s) _ _
+  forward-good s n g = pick-lt (IfGiven (Good (L .fin))) n (left s) _ _
       (λ k. record { inside = g .inside; fits = moved-fits (s .current) (s .displacement) n (g .fits) (omega arith) })
       (λ k. settle-good _ (n - left s) (listed-good _ (s .cursor) (s .lcn)))
 
@@ -123,21 +123,21 @@ module _ (L : RunList) (good : Lawful L) (within : (a l : ℕ) (r : Run) (a′ l
   abbrev pub GoodReader : Reader → Type 0
   GoodReader r = Good (L .fin) (r .stand)
 
-  at-good : (p z : ℕ) (x : Answer Stand) → Holds (Good (L .fin)) x → Holds GoodReader (at p z x)
+  at-good : (p z : ℕ) (x : Answer Stand) → IfGiven (Good (L .fin)) x → IfGiven GoodReader (at p z x)
   at-good p z (given s) h = h
   at-good p z (refused k v) h = tt
 
-  pub opened-good : (z : ℕ) → Holds GoodReader (opened L z)
+  pub opened-good : (z : ℕ) → IfGiven GoodReader (opened L z)
   unfolding opened
   opened-good z = at-good 0 z (forward L start 0) (forward-good start 0 start-good)
 
-  seekTo-good : (r : Reader) (t : ℕ) → GoodReader r → Holds GoodReader (seekTo L r t)
+  seekTo-good : (r : Reader) (t : ℕ) → GoodReader r → IfGiven GoodReader (seekTo L r t)
   unfolding seekTo
-  seekTo-good r t g = pick-all (Holds GoodReader) (eqb t (r .place)) _ _ (λ _. g) (λ _.
+  seekTo-good r t g = pick-all (IfGiven GoodReader) (eqb t (r .place)) _ _ (λ _. g) (λ _.
       at-good t (r .size) (pick (ltb t (r .place)) (forward L start t) (forward L (r .stand) (t - r .place)))
-      (pick-lt (Holds (Good (L .fin))) t (r .place) (forward L start t) (forward L (r .stand) (t - r .place)) (λ _. forward-good start t start-good) (λ _. forward-good (r .stand) (t - r .place) g)))
+      (pick-lt (IfGiven (Good (L .fin))) t (r .place) (forward L start t) (forward L (r .stand) (t - r .place)) (λ _. forward-good start t start-good) (λ _. forward-good (r .stand) (t - r .place) g)))
 
-  pub seek-good : (r : Reader) (x : Answer ℕ) → GoodReader r → Holds GoodReader (then x (seekTo L r))
+  pub seek-good : (r : Reader) (x : Answer ℕ) → GoodReader r → IfGiven GoodReader (then x (seekTo L r))
   seek-good r (given t) g = seekTo-good r t g
   seek-good r (refused k v) g = tt
 
@@ -153,23 +153,20 @@ module _ (L : RunList) (good : Lawful L) (within : (a l : ℕ) (r : Run) (a′ l
   fetch-good w r a l (faulty k v) e g = tt
 
   pub turn-good : (w : ℕ) (r : Reader) → GoodReader r → GoodTurn (turn L w r)
-  unfolding turn
   turn-good w r g =
-      pick-all GoodTurn (eqb w 0) _ _ (λ _. g) (λ _.
-      pick-all GoodTurn (leb (r .size) (r .place)) _ _ (λ _. g) (λ _.
-      pick-all GoodTurn (ltb 0 (left (r .stand))) _ _ (λ _. give-good w r (r .stand) g) (λ _.
-      fetch-good w r (r .stand .cursor) (r .stand .lcn) (L .step (r .stand .cursor) (r .stand .lcn)) refl g)))
+      turn-all L GoodTurn w r (λ _. g) (λ _ _ _. give-good w r (r .stand) g)
+      (λ _ _ _. fetch-good w r (r .stand .cursor) (r .stand .lcn) (L .step (r .stand .cursor) (r .stand .lcn)) refl g)
 
-  pub read-good : (room w : ℕ) (r : Reader) → GoodReader r → Holds (λ g. GoodReader (g .reader)) (read L room w r)
+  pub read-good : (room w : ℕ) (r : Reader) → GoodReader r → IfGiven (λ g. GoodReader (g .reader)) (read L room w r)
   unfolding read follow
   read-good zero w r g = g
   read-good (suc room) w r g = go (turn L w r) (turn-good w r g) (read-good room)
     where
-      kept : (r′ : Reader) → GoodReader r′ → (x : Answer Reading) → Holds (λ g. GoodReader (g .reader)) x → GoodReader ((either x (λ g. g) (nothing r′)) .reader)
+      kept : (r′ : Reader) → GoodReader r′ → (x : Answer Reading) → IfGiven (λ g. GoodReader (g .reader)) x → GoodReader ((either x (λ g. g) (nothing r′)) .reader)
       kept r′ g′ (given y) h = h
       kept r′ g′ (refused k v) h = g′
 
-      go : (t : Turn) → GoodTurn t → ((w : ℕ) (r : Reader) → GoodReader r → Holds (λ g. GoodReader (g .reader)) (read L room w r)) → Holds (λ g. GoodReader (g .reader)) (follow (read L room) w t)
+      go : (t : Turn) → GoodTurn t → ((w : ℕ) (r : Reader) → GoodReader r → IfGiven (λ g. GoodReader (g .reader)) (read L room w r)) → IfGiven (λ g. GoodReader (g .reader)) (follow (read L room) w t)
       go (stops r′) h more = h
       go (gives x r′) h more = kept r′ h (read L room (w - x .length) r′) (more (w - x .length) r′ h)
       go (refuses k v) h more = tt

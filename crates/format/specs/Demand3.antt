@@ -7,17 +7,12 @@ use mathlib.Core.List.{List}
 use lib.ListN.{length}
 use lib.IntN.{ℤ, pos}
 use Rattle.format.specs.Number.{clusterSound}
-use Rattle.format.specs.Listed.{Answer, RunList, runList, list, runs, ToItsEnd}
-use Rattle.format.specs.Listed.Answer.{given, refused}
+use Rattle.format.specs.Listed.{Gives, RunList, runList, list, runs, ToItsEnd}
+use Rattle.format.specs.Listed.Answer.{given}
 use Rattle.format.specs.Reader.{From, base, target, Reading}
 use Rattle.format.specs.Reader.From.{fromStart}
 use Rattle.format.specs.Calls.{Held, opening, seeking, reading}
 use Rattle.format.specs.History.{Call, history, expand, bytesAt, amount, total, NoneEmpty}
-
--- No refusal, and so.
-abbrev pub Gives : {A : Type 0} → (A → Type 0) → Answer A → Type 0
-Gives P (given a) = P a
-Gives P (refused k v) = ⊥
 
 -- A read of w bytes with this room, at place p of a stream of z bytes.
 pub record Named (L : RunList) (p z w room : ℕ) (g : Reading) : Type 0 where

@@ -11,4 +11,5 @@ pub mod Reader
 pub mod Calls
 pub mod History
 pub mod Demand3
+pub mod Laws
 pub mod Cases

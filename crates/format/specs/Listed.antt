@@ -26,6 +26,15 @@ abbrev pub either : {A B : Type 0} → Answer A → (A → B) → B → B
 either (given a) f y = f a
 either (refused k v) f y = y
 
+-- What holds of an answer: no refusal, and so; so, unless it is a refusal.
+abbrev pub Gives : {A : Type 0} → (A → Type 0) → Answer A → Type 0
+Gives P (given a) = P a
+Gives P (refused k v) = ⊥
+
+abbrev pub IfGiven : {A : Type 0} → (A → Type 0) → Answer A → Type 0
+IfGiven P (given a) = P a
+IfGiven P (refused k v) = Unit
+
 -- A list as it is lent with each call: what is decoded at a cursor after an LCN, and the list's length.
 pub record RunList : Type 0 where
   pub step : ℕ → ℕ → Step

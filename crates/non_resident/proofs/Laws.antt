@@ -7,10 +7,8 @@ use mathlib.Core.List.{List, [], _∷_, _++_, append-assoc, append-nil}
 use native.Mathlib.Omega.{arith}
 use native.Mathlib.Nat.{add-zero, zero-add, add-assoc, sub-zero}
 use lib.ListN.{length, take, drop, length-append, length-drop}
-use lib.Dec.{ltb, leb, eqb}
 use lib.IntN.{ℤ}
 use lib.Seq.{sets, sets-eq, take-at, drop-at, drop-drop}
-use Rattle.format.specs.Pick.{pick-all}
 use Rattle.format.specs.Runs.{Run, Step, Inside}
 use Rattle.format.specs.Runs.Step.{over, found, faulty}
 use Rattle.format.specs.Listed.{Answer, either, RunList, runList}
@@ -21,6 +19,7 @@ use Rattle.format.specs.Reader.Turn.{stops, gives, refuses}
 use Rattle.format.specs.Calls.{Held, currentSound, Count, counted, words, stored}
 use Rattle.format.specs.History.{total}
 use Rattle.format.proofs.Runs.{inside-less, lawful, found-inside}
+use Rattle.format.proofs.Reader.{turn-all}
 use Rattle.format.proofs.Sound.{Good, current-fits, GoodTurn, turn-good}
 use Rattle.non_resident.specs.Shown.{spanWords}
 
@@ -100,12 +99,9 @@ fetch-short L w r (found x a l) = give-short w r _
 fetch-short L w r (faulty k v) = tt
 
 turn-short : (L : RunList) (w : ℕ) (r : Reader) → Short w (turn L w r)
-unfolding turn
 turn-short L w r =
-    pick-all (Short w) (eqb w 0) _ _ (λ _. tt) (λ _.
-    pick-all (Short w) (leb (r .size) (r .place)) _ _ (λ _. tt) (λ _.
-    pick-all (Short w) (ltb 0 (left (r .stand))) _ _ (λ _. give-short w r (r .stand)) (λ _.
-    fetch-short L w r (L .step (r .stand .cursor) (r .stand .lcn)))))
+    turn-all L (Short w) w r (λ _. tt) (λ _ _ _. give-short w r (r .stand))
+    (λ _ _ _. fetch-short L w r (L .step (r .stand .cursor) (r .stand .lcn)))
 
 read-turn : (L : RunList) (room w : ℕ) (r : Reader) (t : Turn) → 0 < room → turn L w r ≡ t → read L room w r ≡ follow (read L (room - 1)) w t
 unfolding read

@@ -15,6 +15,7 @@ ghost use lib.IntN.{pos, _+ℤ_};
 ghost use Rattle.format.specs.Number.{withinℤ};
 ghost use Rattle.format.specs.Runs.{step, Inside};
 ghost use Rattle.format.specs.Listed.{runList, listed};
+ghost use Rattle.format.specs.Listed.Answer.{given};
 ghost use Rattle.format.specs.Reader.{leftOf, start, at, settle, forward, seekTo, base, further, here, give, fetch, turn, read};
 ghost use Rattle.format.specs.Calls.{hold, placeSound, currentSound, sound, soundIn, opening, seeking, reading, counted, stored, standing};
 ghost use Rattle.types.specs.Shown.{shownWord};
@@ -202,23 +203,23 @@ fn settle(list: &[u8], cluster: u64, from: Cursor, by: u64) -> Settled
     }
 }
 
-// By n bytes: inside the current run only the displacement moves, otherwise whole runs are passed.
-fn forward(list: &[u8], cluster: u64, s: Stand, n: u64) -> Settled
+// By some bytes: inside the current run only the displacement moves, otherwise whole runs are passed.
+fn forward(list: &[u8], cluster: u64, s: Stand, by: u64) -> Settled
     requires { ⌜ 0 < cluster ⌝ }
-    ensures { λ r. ⌜ shownSettled r ≡ forward (runList cluster (now (list .entry))) (shownStand s) n ⌝ }
+    ensures { λ r. ⌜ shownSettled r ≡ forward (runList cluster (now (list .entry))) (shownStand s) by ⌝ }
 {
     let k = s.current;
     let d = s.displacement;
     let c = s.cursor;
     let left = left_of(k, d);
-    if n < left {
+    if by < left {
         return Settled::At(Stand {
             cursor: c,
             current: k,
-            displacement: d + n,
+            displacement: d + by,
         });
     }
-    settle(list, cluster, c, n - left)
+    settle(list, cluster, c, by - left)
 }
 
 // At the list's start with nothing decoded.
@@ -291,6 +292,16 @@ fn put_span(store: &mut [u64], b: usize, s: Span)
             store[b + 2] = 0;
         }
     }
+}
+
+fn answered(spans: usize, bytes: u64, reader: Reader) -> Outcome
+    ensures { λ r. ⌜ shownOutcome r ≡ given (record { spans = spans; bytes = bytes; reader = seen reader }) ⌝ }
+{
+    Outcome::Given(Reading {
+        spans,
+        bytes,
+        reader,
+    })
 }
 
 impl Reader {
@@ -403,7 +414,7 @@ impl Reader {
             at: self.cursor,
             lcn: self.lcn,
         };
-        let k = self.current;
+        let kept = self.current;
         match c.decode(list, self.cluster) {
             Decoded::Run(run, next) => self.give(
                 w,
@@ -417,7 +428,7 @@ impl Reader {
                 cluster: self.cluster,
                 cursor: list.len(),
                 lcn: self.lcn,
-                current: k,
+                current: kept,
                 displacement: self.displacement,
                 place: self.place,
                 size: self.size,
@@ -462,29 +473,17 @@ impl Reader {
                     r = to;
                 }
                 Turn::Stop(to) => {
-                    return Outcome::Given(Reading {
-                        spans: k,
-                        bytes: w - left,
-                        reader: to,
-                    });
+                    return answered(k, w - left, to);
                 }
                 Turn::Refused(x) => {
                     if k == 0 {
                         return Outcome::Refused(x);
                     }
-                    return Outcome::Given(Reading {
-                        spans: k,
-                        bytes: w - left,
-                        reader: r,
-                    });
+                    return answered(k, w - left, r);
                 }
             }
         }
-        Outcome::Given(Reading {
-            spans: k,
-            bytes: w - left,
-            reader: r,
-        })
+        answered(k, w - left, r)
     }
 
     // w bytes' spans, three words each: 21, then runs.

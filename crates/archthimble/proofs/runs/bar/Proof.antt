@@ -1,17 +1,19 @@
 -- The marks are counted down.
 use borrow.Author.Needs.{needs}
-use Prim.Native.Nat.{_-_}
 use Rattle.archthimble.proofs.runs.bar.Statement.{statement}
 use Rattle.archthimble.proofs.runs.bar.Tie as tie
 
 abbrev Inv-loop : tie.InvT-loop
-Inv-loop list cluster total offset₀ left₀ t7 t8 offset left = Unit {0}
+Inv-loop list cluster from to total m₀ left₀ t9 t10 m left = Unit {0}
 
 abbrev μ-loop : tie.MeasureT-loop
-μ-loop list cluster total offset₀ left₀ t7 t8 offset left = left
+μ-loop list cluster from to total m₀ left₀ t9 t10 m left = left
 
 returns : tie.Need-returns Inv-loop μ-loop
 returns c = search needs
+
+sub-total : tie.Need-sub-total Inv-loop μ-loop
+sub-total c = search needs
 
 slice-aggregate-say : tie.Need-slice-aggregate-say Inv-loop μ-loop
 slice-aggregate-say c = search needs
@@ -25,8 +27,8 @@ loop-holds c = search needs
 mark-requires : tie.Need-mark-requires Inv-loop μ-loop
 mark-requires c κs = search needs
 
-wrapping-add-u64-requires : tie.Need-wrapping-add-u64-requires Inv-loop μ-loop
-wrapping-add-u64-requires c κs = search needs
+onto-requires : tie.Need-onto-requires Inv-loop μ-loop
+onto-requires c κs = search needs
 
 sub-left : tie.Need-sub-left Inv-loop μ-loop
 sub-left c = search needs
@@ -62,11 +64,12 @@ bar-spec =
     Inv-loop
     μ-loop
     returns
+    sub-total
     slice-aggregate-say
     say-requires
     loop-holds
     mark-requires
-    wrapping-add-u64-requires
+    onto-requires
     sub-left
     loop-less
     loop-again

@@ -5,14 +5,14 @@ use mathlib.Core.Path.{_≡_, refl, sym, ap, _∙_}
 use native.Mathlib.Omega.{arith}
 use lib.ListN.{length}
 use borrow.Author.Needs.{needs}
-use Rattle.format.proofs.Sound.{sound-full, current-sound, sound-good}
+use Rattle.format.proofs.Sound.{sound-good, sound-full, current-sound}
 use Rattle.format.specs.Reader.{turn}
 use Rattle.format.specs.Listed.{runList}
 use Rattle.non_resident.proofs.Reader.fill.Statement.{statement}
+use Rattle.non_resident.proofs.Laws.{Laid, laid-none, laid-more, laid-stop, laid-full, laid-broken, laid-refused, laid-length, laid-short}
 use Rattle.non_resident.specs.declared.Turn.{Turn}
 use Rattle.non_resident.specs.declared.Reader.{Reader}
 use Rattle.non_resident.specs.Shown.{seen, shownTurn}
-use Rattle.non_resident.proofs.Laws.{Laid, laid-none, laid-more, laid-stop, laid-full, laid-broken, laid-refused, laid-length, laid-short}
 use Rattle.non_resident.proofs.Reader.fill.Tie as tie
 
 abbrev Inv-loop : tie.InvT-loop
@@ -57,14 +57,17 @@ loop-again c = let i = c .before .before .before .before .before .before .before
 enum-known-to : tie.Need-enum-known-to Inv-loop μ-loop
 enum-known-to c = search needs
 
-sub-t21 : tie.Need-sub-t21 Inv-loop μ-loop
-sub-t21 c = search needs
+sub-answered : tie.Need-sub-answered Inv-loop μ-loop
+sub-answered c = search needs
+
+answered-requires : tie.Need-answered-requires Inv-loop μ-loop
+answered-requires c κs = search needs
 
 same-length : tie.Need-same-length Inv-loop μ-loop
-same-length c = laid-length (c .before .before .before .before .before .before .before .before .args .list .now) (c .before .before .before .before .before .loop .inv .1)
+same-length c = laid-length (c .before .before .before .before .before .before .before .before .before .args .list .now) (c .before .before .before .before .before .before .loop .inv .1)
 
 returns : tie.Need-returns Inv-loop μ-loop
-returns c = let i = c .before .before .before .before .before .loop .inv .1 in let a = c .before .before .before .before .before .before .before .before .args in laid-stop (a .list .now) i (seen (c .before .to .given .0 .0)) (c .before .before .before .before .loop-test .taken) (turned _ (a .list .now) (c .before .before .before .before .before .loop .r) _ (c .before .before .before .turn .result) (i .cluster-is) (c .before .before .before .turn .ensures .0) ∙ ap shownTurn (c .before .to .given .1)) ((rw (c .before .to .given .1) at (c .before .before .before .turn .ensures .1)) ∙ i .cluster-is)
+returns c = let i = c .before .before .before .before .before .before .loop .inv .1 in let a = c .before .before .before .before .before .before .before .before .before .args in let d = laid-stop (a .list .now) i (seen (c .before .before .to .given .0 .0)) (c .before .before .before .before .before .loop-test .taken) (turned _ (a .list .now) (c .before .before .before .before .before .before .loop .r) _ (c .before .before .before .before .turn .result) (i .cluster-is) (c .before .before .before .before .turn .ensures .0) ∙ ap shownTurn (c .before .before .to .given .1)) ((rw (c .before .before .to .given .1) at (c .before .before .before .before .turn .ensures .1)) ∙ i .cluster-is) in (c .answered .ensures ∙ d .0, d .1)
 
 enum-known-x-2 : tie.Need-enum-known-x-2 Inv-loop μ-loop
 enum-known-x-2 c = search needs
@@ -75,23 +78,29 @@ same-length-2 c = laid-length (c .before .before .before .before .before .before
 returns-2 : tie.Need-returns-2 Inv-loop μ-loop
 returns-2 c = let i = c .before .before .before .before .before .before .loop .inv .1 in let a = c .before .before .before .before .before .before .before .before .before .args in laid-refused (a .list .now) i _ _ (c .before .before .before .before .before .loop-test .taken) (c .if1 .taken) (turned _ (a .list .now) (c .before .before .before .before .before .before .loop .r) _ (c .before .before .before .before .turn .result) (i .cluster-is) (c .before .before .before .before .turn .ensures .0) ∙ ap shownTurn (c .before .before .x2 .given .1))
 
-sub-t24 : tie.Need-sub-t24 Inv-loop μ-loop
-sub-t24 c = search needs
+sub-answered-2 : tie.Need-sub-answered-2 Inv-loop μ-loop
+sub-answered-2 c = search needs
+
+answered-requires-2 : tie.Need-answered-requires-2 Inv-loop μ-loop
+answered-requires-2 c κs = search needs
 
 same-length-3 : tie.Need-same-length-3 Inv-loop μ-loop
-same-length-3 c = laid-length (c .before .before .before .before .before .before .before .before .before .args .list .now) (c .before .before .before .before .before .before .loop .inv .1)
+same-length-3 c = laid-length (c .before .before .before .before .before .before .before .before .before .before .args .list .now) (c .before .before .before .before .before .before .before .loop .inv .1)
 
 returns-3 : tie.Need-returns-3 Inv-loop μ-loop
-returns-3 c = let i = c .before .before .before .before .before .before .loop .inv .1 in let a = c .before .before .before .before .before .before .before .before .before .args in laid-broken (a .list .now) i _ _ (c .before .before .before .before .before .loop-test .taken) (omega (arith, c .if1 .left)) (turned _ (a .list .now) (c .before .before .before .before .before .before .loop .r) _ (c .before .before .before .before .turn .result) (i .cluster-is) (c .before .before .before .before .turn .ensures .0) ∙ ap shownTurn (c .before .before .x2 .given .1))
+returns-3 c = let i = c .before .before .before .before .before .before .before .loop .inv .1 in let a = c .before .before .before .before .before .before .before .before .before .before .args in let d = laid-broken (a .list .now) i _ _ (c .before .before .before .before .before .before .loop-test .taken) (omega (arith, c .before .if1 .left)) (turned _ (a .list .now) (c .before .before .before .before .before .before .before .loop .r) _ (c .before .before .before .before .before .turn .result) (i .cluster-is) (c .before .before .before .before .before .turn .ensures .0) ∙ ap shownTurn (c .before .before .before .x2 .given .1)) in (c .answered2 .ensures ∙ d .0, d .1)
 
-sub-t26 : tie.Need-sub-t26 Inv-loop μ-loop
-sub-t26 c = search needs
+sub-answered-3 : tie.Need-sub-answered-3 Inv-loop μ-loop
+sub-answered-3 c = search needs
+
+answered-requires-3 : tie.Need-answered-requires-3 Inv-loop μ-loop
+answered-requires-3 c κs = search needs
 
 same-length-4 : tie.Need-same-length-4 Inv-loop μ-loop
-same-length-4 c = laid-length (c .before .before .before .before .args .list .now) (c .before .loop .inv .1)
+same-length-4 c = laid-length (c .before .before .before .before .before .args .list .now) (c .before .before .loop .inv .1)
 
 returns-4 : tie.Need-returns-4 Inv-loop μ-loop
-returns-4 c = let i = c .before .loop .inv .1 in let a = c .before .before .before .before .args in laid-full (a .list .now) i (c .loop-test .left)
+returns-4 c = let d = laid-full (c .before .before .before .before .before .args .list .now) (c .before .before .loop .inv .1) (c .before .loop-test .left) in (c .answered3 .ensures ∙ d .0, d .1)
 
 pub fill-spec : {M : Type 1} → statement M
 fill-spec =
@@ -109,15 +118,18 @@ fill-spec =
     loop-less
     loop-again
     enum-known-to
-    sub-t21
+    sub-answered
+    answered-requires
     same-length
     returns
     enum-known-x-2
     same-length-2
     returns-2
-    sub-t24
+    sub-answered-2
+    answered-requires-2
     same-length-3
     returns-3
-    sub-t26
+    sub-answered-3
+    answered-requires-3
     same-length-4
     returns-4)

@@ -1,0 +1,1 @@
+../../archthimble/src/text.rt
