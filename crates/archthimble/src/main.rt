@@ -41,6 +41,26 @@ fn one_file(words: usize) -> bool {
     false
 }
 
+fn runs_of(words: usize) {
+    if words == 4 {
+        runs::typed();
+        return;
+    }
+    say(
+        b"That takes a list in hex and a cluster size, as in: archthimble runs '11 02 0A 00' 512\n",
+    );
+}
+
+fn spans_of(words: usize) {
+    if words == 7 {
+        spans::typed();
+        return;
+    }
+    say(
+        b"That takes a list in hex and four numbers, as in: archthimble spans '11 02 0A 00' 512 1000 0 1000\n",
+    );
+}
+
 fn command(word: &[u8], words: usize) {
     if check::same(word, b"boot") {
         if words == 2 {
@@ -59,23 +79,11 @@ fn command(word: &[u8], words: usize) {
         return;
     }
     if check::same(word, b"runs") {
-        if words == 4 {
-            runs::typed();
-            return;
-        }
-        say(
-            b"That takes a list in hex and a cluster size, as in: archthimble runs '11 02 0A 00' 512\n",
-        );
+        runs_of(words);
         return;
     }
     if check::same(word, b"spans") {
-        if words == 7 {
-            spans::typed();
-            return;
-        }
-        say(
-            b"That takes a list in hex and four numbers, as in: archthimble spans '11 02 0A 00' 512 1000 0 1000\n",
-        );
+        spans_of(words);
         return;
     }
     if check::same(word, b"help") {

@@ -142,16 +142,17 @@ module _ (cluster : ℕ) (s : List ℕ) (c : clusterSound cluster ≡ true) wher
         first (given r) q = let f : record { cluster = cluster; reader = r } ≡ new = cc in rw (← f)
         first (refused k v) q = cc
 
-    asked : (new : Held) → opening cluster s z ≡ given new → Since 0 z new → (h : Held) (p : ℕ) → Since p z h → Demand3 L s z new h p
+    asked : (new : Held) → opening cluster s z ≡ given new → Since 0 z new → (h : Held) (p : ℕ) → Since p z h → Demand3 cluster s z new h p
     unfolding base
     asked new e n h p i = record {
+      parts = (i .cluster-is, i .tracks .size);
       place = i .tracks .place;
       reads = λ w store. rw (read-is p z h i w store) (names p w (length store / 3) (read L (length store / 3) w (h .reader)) (read-at L good p z w (length store / 3) (h .reader) (i .tracks)));
       seeks = λ f a t q ne. rw (seek-is p z h i f a, q, seek-is 0 z new n fromStart (pos t), target-again (base p z f) a t q, anew new e n t) (seek-case L p z t (h .reader) (i .tracks) (λ x. hold cluster x ≡ hold cluster (at t z (settle L (list L) t))) (λ y. absurd (ne y)) refl);
       goes = λ f a t q. rw (seek-is p z h i f a, q) (seek-case L p z t (h .reader) (i .tracks) (λ x. Gives (λ h′. h′ .reader .place ≡ t) (hold cluster x)) (λ y. i .tracks .place ∙ sym y) (placed t (settle L (list L) t) (settle-gives L (list L) t end)));
     }
 
-    opens : (x : Answer Held) → opening cluster s z ≡ x → IfGiven (Since 0 z) x → Gives (λ new. (calls : List Call) → let h = history s z (new, 0) calls in Demand3 L s z new (h .0) (h .1)) x
+    opens : (x : Answer Held) → opening cluster s z ≡ x → IfGiven (Since 0 z) x → Gives (λ new. (calls : List Call) → let h = history s z (new, 0) calls in Demand3 cluster s z new (h .0) (h .1)) x
     opens (given new) e i = λ calls. asked new e i (history s z (new, 0) calls .0) (history s z (new, 0) calls .1) (history-since z (new, 0) calls i)
     opens (refused k v) e i = subst (Gives (λ h. h .reader .place ≡ 0)) (sym (ap (hold cluster) (opened-is L z)) ∙ sym (open-is z) ∙ e) (placed 0 (settle L (list L) 0) (settle-gives L (list L) 0 end))
 

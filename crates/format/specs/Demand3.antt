@@ -23,14 +23,15 @@ pub record Named (L : RunList) (p z w room : ℕ) (g : Reading) : Type 0 where
   pub enough : runs (list L) ≤ room → g .bytes ≡ amount L p z w
   pub unused : length (g .spans) < room → g .bytes ≡ amount L p z w
 
--- A reader h and the place p that its history gives; `new` is the newly opened one.
-pub record Demand3 (L : RunList) (s : List ℕ) (z : ℕ) (new h : Held) (p : ℕ) : Type 0 where
+-- A reader h of a stream of z bytes, and the place p that its history gives; `new` is the newly opened one.
+pub record Demand3 (cluster : ℕ) (s : List ℕ) (z : ℕ) (new h : Held) (p : ℕ) : Type 0 where
+  pub parts : (h .cluster ≡ cluster) × (h .reader .size ≡ z)
   pub place : h .reader .place ≡ p
-  pub reads : (w : ℕ) (store : List ℕ) → Gives (Named L p z w (length store / 3)) (reading s h w store)
+  pub reads : (w : ℕ) (store : List ℕ) → Gives (Named (runList cluster s) p z w (length store / 3)) (reading s h w store)
   pub seeks : (f : From) (a : ℤ) (t : ℕ) → target (base p z f) a ≡ given t → (t ≡ p → ⊥) → seeking s h f a ≡ seeking s new fromStart (pos t)
   pub goes : (f : From) (a : ℤ) (t : ℕ) → target (base p z f) a ≡ given t → Gives (λ h′. h′ .reader .place ≡ t) (seeking s h f a)
 
 -- A list that decodes to its end opens, and then, whatever the calls.
 abbrev pub Demand : ℕ → List ℕ → Type 0
-Demand cluster s = let L = runList cluster s in clusterSound cluster ≡ true → ToItsEnd (list L) → (z : ℕ)
-    → Gives (λ new. (calls : List Call) → let h = history s z (new, 0) calls in Demand3 L s z new (h .0) (h .1)) (opening cluster s z)
+Demand cluster s = clusterSound cluster ≡ true → ToItsEnd (list (runList cluster s)) → (z : ℕ)
+    → Gives (λ new. (calls : List Call) → let h = history s z (new, 0) calls in Demand3 cluster s z new (h .0) (h .1)) (opening cluster s z)
