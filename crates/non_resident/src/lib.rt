@@ -264,7 +264,7 @@ fn base(place: u64, size: u64, from: From) -> u64
     }
 }
 
-fn target(base: u64, by: By) -> Word
+fn target_of(base: u64, by: By) -> Word
     ensures { λ r. ⌜ shownWord r ≡ withinℤ (pos base +ℤ amountOf by) ⌝ }
 {
     match by {
@@ -373,7 +373,7 @@ impl Reader {
         if !self.is_sound_in(list.len()) {
             return Sought::Refused(Refusal::Unsound);
         }
-        match target(base(self.place, self.size, from), by) {
+        match target_of(base(self.place, self.size, from), by) {
             Word::Out => Sought::Refused(Refusal::Target),
             Word::Is(t) => self.seek_to(list, t),
         }

@@ -23,8 +23,8 @@ returns c = rw (← (c .before .is-sound-in .ensures)) (yes-is _ (c .if1 .taken)
 base-requires : tie.Need-base-requires
 base-requires c κs = search needs
 
-target-requires : tie.Need-target-requires
-target-requires c κs = search needs
+target-of-requires : tie.Need-target-of-requires
+target-of-requires c κs = search needs
 
 enum-told : tie.Need-enum-told
 enum-told c = search needs
@@ -37,11 +37,11 @@ seek-to-requires c κs = sound-full _ _ (sym (c .before .before .before .before 
 
 returns-2 : tie.Need-returns-2
 unfolding seeking seek target
-returns-2 c = let a = c .before .before .before .before .before .before .before .args in rw (← (c .before .before .before .before .before .is-sound-in .ensures)) (no-is _ (c .before .before .before .before .if1 .left) (ap (λ (x : Word). hold (a .self .cluster) (then (inRange x) (seekTo (runList (a .self .cluster) (a .list .now)) (seen (a .self) .reader)))) (sym (ap shownWord (c .enum-told .given .1)) ∙ c .before .before .target .ensures ∙ ap (λ b. withinℤ (pos b +ℤ amountOf (a .by))) (c .before .before .before .base .ensures))))
+returns-2 c = let a = c .before .before .before .before .before .before .before .args in rw (← (c .before .before .before .before .before .is-sound-in .ensures)) (no-is _ (c .before .before .before .before .if1 .left) (ap (λ (x : Word). hold (a .self .cluster) (then (inRange x) (seekTo (runList (a .self .cluster) (a .list .now)) (seen (a .self) .reader)))) (sym (ap shownWord (c .enum-told .given .1)) ∙ c .before .before .target-of .ensures ∙ ap (λ b. withinℤ (pos b +ℤ amountOf (a .by))) (c .before .before .before .base .ensures))))
 
 returns-3 : tie.Need-returns-3
 unfolding seeking seek target
-returns-3 c = let a = c .before .before .before .before .before .before .before .before .before .args in rw (← (c .before .before .before .before .before .before .before .is-sound-in .ensures)) (no-is _ (c .before .before .before .before .before .before .if1 .left) (c .seek-to .ensures ∙ ap (λ (x : Word). hold (a .self .cluster) (then (inRange x) (seekTo (runList (a .self .cluster) (a .list .now)) (seen (a .self) .reader)))) (sym (ap shownWord (c .before .before .t .given .1)) ∙ c .before .before .before .before .target .ensures ∙ ap (λ b. withinℤ (pos b +ℤ amountOf (a .by))) (c .before .before .before .before .before .base .ensures))))
+returns-3 c = let a = c .before .before .before .before .before .before .before .before .before .args in rw (← (c .before .before .before .before .before .before .before .is-sound-in .ensures)) (no-is _ (c .before .before .before .before .before .before .if1 .left) (c .seek-to .ensures ∙ ap (λ (x : Word). hold (a .self .cluster) (then (inRange x) (seekTo (runList (a .self .cluster) (a .list .now)) (seen (a .self) .reader)))) (sym (ap shownWord (c .before .before .t .given .1)) ∙ c .before .before .before .before .target-of .ensures ∙ ap (λ b. withinℤ (pos b +ℤ amountOf (a .by))) (c .before .before .before .before .before .base .ensures))))
 
 pub seek-spec : {M : Type 1} → statement M
 seek-spec =
@@ -50,7 +50,7 @@ seek-spec =
     is-sound-in-requires
     returns
     base-requires
-    target-requires
+    target-of-requires
     enum-told
     enum-known-t
     seek-to-requires
