@@ -70,6 +70,28 @@ use Rattle.record.proofs.repair.Reads as record-repair-reads
 use Rattle.record.proofs.repair.Kinds as record-repair-kinds
 use Rattle.non_resident.proofs.Reader.read.Reads as non-resident-reader-read-reads
 use Rattle.non_resident.proofs.Reader.read.Kinds as non-resident-reader-read-kinds
+use Rattle.capi.proofs.archthimble_lcn_plus.Reads as capi-lcn-plus-reads
+use Rattle.capi.proofs.archthimble_lcn_plus.Kinds as capi-lcn-plus-kinds
+use Rattle.capi.proofs.archthimble_lcn_position.Reads as capi-lcn-position-reads
+use Rattle.capi.proofs.archthimble_lcn_position.Kinds as capi-lcn-position-kinds
+use Rattle.capi.proofs.archthimble_geometry.Reads as capi-geometry-reads
+use Rattle.capi.proofs.archthimble_geometry.Kinds as capi-geometry-kinds
+use Rattle.capi.proofs.archthimble_next_run.Reads as capi-next-run-reads
+use Rattle.capi.proofs.archthimble_next_run.Kinds as capi-next-run-kinds
+use Rattle.capi.proofs.archthimble_lookup.Reads as capi-lookup-reads
+use Rattle.capi.proofs.archthimble_lookup.Kinds as capi-lookup-kinds
+use Rattle.capi.proofs.archthimble_repair.Reads as capi-repair-reads
+use Rattle.capi.proofs.archthimble_repair.Kinds as capi-repair-kinds
+use Rattle.capi.proofs.archthimble_open.Reads as capi-open-reads
+use Rattle.capi.proofs.archthimble_open.Kinds as capi-open-kinds
+use Rattle.capi.proofs.archthimble_seek.Reads as capi-seek-reads
+use Rattle.capi.proofs.archthimble_seek.Kinds as capi-seek-kinds
+use Rattle.capi.proofs.archthimble_seek_signed.Reads as capi-seek-signed-reads
+use Rattle.capi.proofs.archthimble_seek_signed.Kinds as capi-seek-signed-kinds
+use Rattle.capi.proofs.archthimble_read.Reads as capi-read-reads
+use Rattle.capi.proofs.archthimble_read.Kinds as capi-read-kinds
+use Rattle.capi.proofs.archthimble_data_position.Reads as capi-data-position-reads
+use Rattle.capi.proofs.archthimble_data_position.Kinds as capi-data-position-kinds
 
 -- One answer.
 abbrev pub One : (n : ℕ) (ps : List (PK n)) (r : RK n) → Out n ps r → Type 0
@@ -162,3 +184,48 @@ record-repair κs a x y e e′ p q = N.outcome-injective x y (e .0 .now) (e′ .
 pub non-resident-reader-read : (κs : Lfts 2) (a : Dens κs non-resident-reader-read-kinds.ps) (x y : resT non-resident-reader-read-kinds.r κs .Denot) (e e′ : AtExit (endedOf 2 non-resident-reader-read-kinds.ps non-resident-reader-read-kinds.r) κs)
     → non-resident-reader-read-reads.Learnt κs a x e → non-resident-reader-read-reads.Learnt κs a y e′ → (x ≡ y) × (e .1 .1 .1 .0 .now ≡ e′ .1 .1 .1 .0 .now)
 non-resident-reader-read κs a x y e e′ p q = (outcome-injective x y (p .0 ∙ sym (q .0)), p .1 ∙ sym (q .1))
+
+-- THE CALLS FOR C: one number, and each lent store is left in one way.
+pub capi-lcn-plus : (κs : Lfts 1) (a : Dens κs capi-lcn-plus-kinds.ps) (x y : resT capi-lcn-plus-kinds.r κs .Denot) (e e′ : AtExit (endedOf 1 capi-lcn-plus-kinds.ps capi-lcn-plus-kinds.r) κs)
+    → capi-lcn-plus-reads.Learnt κs a x e → capi-lcn-plus-reads.Learnt κs a y e′ → (x ≡ y) × (e .1 .1 .0 .now ≡ e′ .1 .1 .0 .now)
+capi-lcn-plus κs a x y e e′ p q = (p .0 ∙ sym (q .0), p .1 ∙ sym (q .1))
+
+pub capi-lcn-position : (κs : Lfts 1) (a : Dens κs capi-lcn-position-kinds.ps) (x y : resT capi-lcn-position-kinds.r κs .Denot) (e e′ : AtExit (endedOf 1 capi-lcn-position-kinds.ps capi-lcn-position-kinds.r) κs)
+    → capi-lcn-position-reads.Learnt κs a x e → capi-lcn-position-reads.Learnt κs a y e′ → (x ≡ y) × (e .1 .1 .0 .now ≡ e′ .1 .1 .0 .now)
+capi-lcn-position κs a x y e e′ p q = (p .0 ∙ sym (q .0), p .1 ∙ sym (q .1))
+
+pub capi-geometry : (κs : Lfts 2) (a : Dens κs capi-geometry-kinds.ps) (x y : resT capi-geometry-kinds.r κs .Denot) (e e′ : AtExit (endedOf 2 capi-geometry-kinds.ps capi-geometry-kinds.r) κs)
+    → capi-geometry-reads.Learnt κs a x e → capi-geometry-reads.Learnt κs a y e′ → (x ≡ y) × (e .1 .0 .now ≡ e′ .1 .0 .now)
+capi-geometry κs a x y e e′ p q = (p .0 ∙ sym (q .0), p .1 ∙ sym (q .1))
+
+pub capi-next-run : (κs : Lfts 2) (a : Dens κs capi-next-run-kinds.ps) (x y : resT capi-next-run-kinds.r κs .Denot) (e e′ : AtExit (endedOf 2 capi-next-run-kinds.ps capi-next-run-kinds.r) κs)
+    → capi-next-run-reads.Learnt κs a x e → capi-next-run-reads.Learnt κs a y e′ → (x ≡ y) × (e .1 .1 .1 .1 .0 .now ≡ e′ .1 .1 .1 .1 .0 .now)
+capi-next-run κs a x y e e′ p q = (p .0 ∙ sym (q .0), p .1 ∙ sym (q .1))
+
+pub capi-lookup : (κs : Lfts 2) (a : Dens κs capi-lookup-kinds.ps) (x y : resT capi-lookup-kinds.r κs .Denot) (e e′ : AtExit (endedOf 2 capi-lookup-kinds.ps capi-lookup-kinds.r) κs)
+    → capi-lookup-reads.Learnt κs a x e → capi-lookup-reads.Learnt κs a y e′ → (x ≡ y) × (e .1 .1 .1 .0 .now ≡ e′ .1 .1 .1 .0 .now)
+capi-lookup κs a x y e e′ p q = (p .0 ∙ sym (q .0), p .1 ∙ sym (q .1))
+
+pub capi-repair : (κs : Lfts 2) (a : Dens κs capi-repair-kinds.ps) (x y : resT capi-repair-kinds.r κs .Denot) (e e′ : AtExit (endedOf 2 capi-repair-kinds.ps capi-repair-kinds.r) κs)
+    → capi-repair-reads.Learnt κs a x e → capi-repair-reads.Learnt κs a y e′ → (x ≡ y) × (e .1 .0 .now ≡ e′ .1 .0 .now) × (e .0 .now ≡ e′ .0 .now)
+capi-repair κs a x y e e′ p q = (p .0 ∙ sym (q .0), p .1 ∙ sym (q .1), p .2 ∙ sym (q .2))
+
+pub capi-open : (κs : Lfts 3) (a : Dens κs capi-open-kinds.ps) (x y : resT capi-open-kinds.r κs .Denot) (e e′ : AtExit (endedOf 3 capi-open-kinds.ps capi-open-kinds.r) κs)
+    → capi-open-reads.Learnt κs a x e → capi-open-reads.Learnt κs a y e′ → (x ≡ y) × (e .1 .1 .1 .1 .0 .now ≡ e′ .1 .1 .1 .1 .0 .now) × (e .1 .1 .1 .0 .now ≡ e′ .1 .1 .1 .0 .now)
+capi-open κs a x y e e′ p q = (p .0 ∙ sym (q .0), p .1 ∙ sym (q .1), p .2 ∙ sym (q .2))
+
+pub capi-seek : (κs : Lfts 3) (a : Dens κs capi-seek-kinds.ps) (x y : resT capi-seek-kinds.r κs .Denot) (e e′ : AtExit (endedOf 3 capi-seek-kinds.ps capi-seek-kinds.r) κs)
+    → capi-seek-reads.Learnt κs a x e → capi-seek-reads.Learnt κs a y e′ → (x ≡ y) × (e .1 .1 .1 .1 .0 .now ≡ e′ .1 .1 .1 .1 .0 .now) × (e .1 .0 .now ≡ e′ .1 .0 .now)
+capi-seek κs a x y e e′ p q = (p .0 ∙ sym (q .0), p .1 ∙ sym (q .1), p .2 ∙ sym (q .2))
+
+pub capi-seek-signed : (κs : Lfts 3) (a : Dens κs capi-seek-signed-kinds.ps) (x y : resT capi-seek-signed-kinds.r κs .Denot) (e e′ : AtExit (endedOf 3 capi-seek-signed-kinds.ps capi-seek-signed-kinds.r) κs)
+    → capi-seek-signed-reads.Learnt κs a x e → capi-seek-signed-reads.Learnt κs a y e′ → (x ≡ y) × (e .1 .1 .1 .1 .0 .now ≡ e′ .1 .1 .1 .1 .0 .now) × (e .1 .0 .now ≡ e′ .1 .0 .now)
+capi-seek-signed κs a x y e e′ p q = (p .0 ∙ sym (q .0), p .1 ∙ sym (q .1), p .2 ∙ sym (q .2))
+
+pub capi-read : (κs : Lfts 4) (a : Dens κs capi-read-kinds.ps) (x y : resT capi-read-kinds.r κs .Denot) (e e′ : AtExit (endedOf 4 capi-read-kinds.ps capi-read-kinds.r) κs)
+    → capi-read-reads.Learnt κs a x e → capi-read-reads.Learnt κs a y e′ → (x ≡ y) × (e .1 .1 .1 .1 .0 .now ≡ e′ .1 .1 .1 .1 .0 .now) × (e .1 .0 .now ≡ e′ .1 .0 .now) × (e .1 .1 .1 .0 .now ≡ e′ .1 .1 .1 .0 .now)
+capi-read κs a x y e e′ p q = (p .0 ∙ sym (q .0), p .1 ∙ sym (q .1), p .2 ∙ sym (q .2), p .3 ∙ sym (q .3))
+
+pub capi-data-position : (κs : Lfts 2) (a : Dens κs capi-data-position-kinds.ps) (x y : resT capi-data-position-kinds.r κs .Denot) (e e′ : AtExit (endedOf 2 capi-data-position-kinds.ps capi-data-position-kinds.r) κs)
+    → capi-data-position-reads.Learnt κs a x e → capi-data-position-reads.Learnt κs a y e′ → (x ≡ y) × (e .1 .0 .now ≡ e′ .1 .0 .now)
+capi-data-position κs a x y e e′ p q = (p .0 ∙ sym (q .0), p .1 ∙ sym (q .1))

@@ -1,10 +1,9 @@
--- Reads by the turn: each span is the least of three remainders that aren't 0. A run that is used up, by the rules of a turn and of
--- going forward.
+-- Reads by the turn: each span is the least of three remainders that aren't 0, and the reader then stands behind it.
 use Prim.Native.Nat.{ℕ, zero, suc, _+_, _-_, _<_, _≤_, min}
 use mathlib.Core.Path.{_≡_, refl, sym, ap, subst, _∙_}
 use mathlib.Core.List.{List, [], _∷_}
 use native.Mathlib.Omega.{arith}
-use native.Mathlib.Nat.{add-zero}
+use native.Mathlib.Nat.{add-zero, add-assoc}
 use lib.ListN.{length}
 use lib.Dec.{ltb, leb, eqb}
 use borrow.Author.Tests.{eqb-false, leb-false, lt-ltb, le-ltb, lt-leb, eq-eqb, ne-eqb}
@@ -20,7 +19,7 @@ use Rattle.format.specs.Reader.Turn.{stops, gives, refuses}
 use Rattle.format.specs.Reader.Position.{atByte}
 use Rattle.format.specs.History.{total, NoneEmpty, amount}
 use Rattle.format.specs.Demand3.{Named}
-use Rattle.format.specs.Laws.{Summed, EveryReadSums, ReadMoves, UsesUp, SeeksOn}
+use Rattle.format.specs.Laws.{Summed, EveryReadSums, ReadMoves, behind, PositionFollows, SeeksOn}
 use Rattle.format.proofs.Reader.{turn-all, settle-in}
 
 -- SUMS. A turn's span isn't empty.
@@ -75,32 +74,51 @@ module _ (L : RunList) (good : Lawful L) where
       go [] e = let q = n .unused (rw e hr) in omega arith
       go (x ∷ xs) e = let f = subst NoneEmpty e (n .full) in let s = n .sum ∙ ap total e in rw s (omega (arith, f .0))
 
-  -- A RUN IS USED UP.
-  read-none : (room : ℕ) (r : Reader) → read L room 0 r ≡ given (nothing r)
-  unfolding read turn follow pick
-  read-none zero r = refl
-  read-none (suc room) r = refl
-
-  end-of : (c : Current) (x : Run) (d n : ℕ) → c ≡ some x → x .place ≡ disk d → n ≡ x .size → positionOf (here c n) ≡ atByte (d + x .size)
+  -- DATA POSITION FOLLOWS: a span's place with its length behind it is where the reader then stands.
+  go-on : (c : Current) (d n : ℕ) → positionOf (here c (d + n)) ≡ positionOf (further (here c d) n)
   unfolding here further
-  end-of c x d n e p q = rw (e, p, q)
+  go-on none d n = refl
+  go-on (some r) d n = on (r .place)
+    where
+      on : (p : Place) → positionOf (further p (d + n)) ≡ positionOf (further (further p d) n)
+      on (disk p) = ap atByte (sym (add-assoc p d n))
+      on hole = refl
 
-  left-is : (c : Current) (x : Run) (d : ℕ) → c ≡ some x → leftOf c d ≡ x .size - d
-  unfolding leftOf
-  left-is c x d e = rw e
+  abbrev Follows : Reader → Turn → Type 0
+  Follows r (stops r′) = dataPosition r′ ≡ dataPosition r
+  Follows r (gives x r′) = dataPosition r′ ≡ positionOf (further (x .place) (x .length))
+  Follows r (refuses k v) = Unit {0}
 
-  pub uses-up : UsesUp L
-  unfolding read turn give follow
-  uses-up r x d e p hl hd hz room =
-      let s = r .stand in
-      let w = left s in
-      let n : min w (min w (r .size - r .place)) ≡ w = omega arith in
-      let r′ : Reader = record { stand = moved s w; place = r .place + w; size = r .size } in
-      let t : turn L w r ≡ gives (record { place = here (s .current) (s .displacement); length = w }) r′ =
-      pick-no _ _ (ne-eqb w 0 (λ q. omega arith)) ∙ pick-no _ _ (lt-leb (r .size) (r .place) (omega arith)) ∙ pick-yes _ _ (lt-ltb 0 w hl) ∙ rw n in
-      let z : w - w ≡ 0 = omega arith in
-      let q : s .displacement + w ≡ x .size = rw (left-is (s .current) x (s .displacement) e) (omega arith) in
-      subst (λ y. Gives (λ g. dataPosition (g .reader) ≡ atByte (d + x .size)) (follow (read L room) w y)) (sym t) (rw (z, read-none room r′) (end-of (s .current) x d (s .displacement + w) e p q))
+  give-follows : (w : ℕ) (r : Reader) (s : Stand) → Follows r (give w r s)
+  unfolding give
+  give-follows w r s = go-on (s .current) (s .displacement) (min w (min (left s) (r .size - r .place)))
+
+  fetch-follows : (w : ℕ) (r : Reader) (x : Step) → Follows r (fetch L w r x)
+  unfolding fetch
+  fetch-follows w r over = refl
+  fetch-follows w r (found x a l) = give-follows w r (entered x a l)
+  fetch-follows w r (faulty k v) = tt
+
+  turn-follows : (w : ℕ) (r : Reader) → Follows r (turn L w r)
+  turn-follows w r = turn-all L (Follows r) w r (λ _. refl) (λ _ _ _. give-follows w r (r .stand)) (λ _ _ _. fetch-follows w r (L .step (r .stand .cursor) (r .stand .lcn)))
+
+  pub position-follows : PositionFollows L
+  unfolding read follow
+  position-follows zero w r = refl
+  position-follows (suc room) w r = go (turn L w r) (turn-follows w r) (position-follows room)
+    where
+      or-none : (r′ : Reader) (x : Answer Reading) → IfGiven (λ g. dataPosition (g .reader) ≡ behind (dataPosition r′) (g .spans)) x
+          → let g = either x (λ g. g) (nothing r′) in dataPosition (g .reader) ≡ behind (dataPosition r′) (g .spans)
+      or-none r′ (given g) h = h
+      or-none r′ (refused k v) h = refl
+
+      go : (t : Turn) → Follows r t → ((w : ℕ) (r : Reader) → IfGiven (λ g. dataPosition (g .reader) ≡ behind (dataPosition r) (g .spans)) (read L room w r))
+          → IfGiven (λ g. dataPosition (g .reader) ≡ behind (dataPosition r) (g .spans)) (follow (read L room) w t)
+      go (stops r′) h more = h
+      go (gives x r′) h more =
+          let y = read L room (w - x .length) r′ in
+          or-none r′ y (more (w - x .length) r′) ∙ ap (λ p. behind p (either y (λ g. g) (nothing r′) .spans)) h
+      go (refuses k v) h more = tt
 
   start-of : (y : Run) (e : ℕ) → y .place ≡ disk e → positionOf (here (some y) 0) ≡ atByte e
   unfolding here further

@@ -27,6 +27,12 @@ pub data Case : Type 0 where
   standsAfter : ℕ → List ℕ → List Call → Answer Position → Case
   seeksAfter : ℕ → List ℕ → List Call → From → ℤ → Answer Held → Case
   readsAfter : ℕ → List ℕ → List Call → ℕ → List ℕ → Answer Count → List ℕ → Case
+  -- the same of a reader that is made by hand
+  standsBy : Held → Answer Position → Case
+  seeksBy : List ℕ → Held → From → ℤ → Answer Held → Case
+  readsBy : List ℕ → Held → ℕ → List ℕ → Answer Count → List ℕ → Case
+  -- an opening, at a data size of 4,000
+  opensAt : ℕ → List ℕ → Answer Held → Case
 
 abbrev heldAfter : ℕ → List ℕ → List Call → Answer Held
 heldAfter cluster s calls = then (opening cluster s 4000) (λ h. A.given (history s 4000 (h, 0) calls .0))
@@ -39,6 +45,10 @@ Holds (standsAfter cluster s calls answer) = then (heldAfter cluster s calls) st
 Holds (seeksAfter cluster s calls f a answer) = then (heldAfter cluster s calls) (λ h. seeking s h f a) ≡ answer
 Holds (readsAfter cluster s calls w store answer left) =
     (then (heldAfter cluster s calls) (λ h. counted cluster (reading s h w store)) ≡ answer) × (either (heldAfter cluster s calls) (λ h. stored store (reading s h w store)) [] ≡ left)
+Holds (standsBy h answer) = standing h ≡ answer
+Holds (seeksBy s h f a answer) = seeking s h f a ≡ answer
+Holds (readsBy s h w store answer left) = (counted (h .cluster) (reading s h w store) ≡ answer) × (stored store (reading s h w store) ≡ left)
+Holds (opensAt cluster s answer) = opening cluster s 4000 ≡ answer
 
 abbrev pub AllHold : List Case → Type 0
 AllHold [] = Unit {0}
@@ -53,6 +63,14 @@ empty size = record { size = size; place = hole }
 abbrev held : ℕ → ℕ → Current → ℕ → ℕ → Held
 held cursor lcn current d place =
     record { cluster = 512; reader = record { stand = record { cursor = cursor; lcn = lcn; current = current; displacement = d }; place = place; size = 4000 } }
+
+-- made by hand: cluster size, cursor, current run, displacement; at place 100
+abbrev made : ℕ → ℕ → Current → ℕ → Held
+made cluster cursor current d =
+    record { cluster = cluster; reader = record { stand = record { cursor = cursor; lcn = 0; current = current; displacement = d }; place = 100; size = 4000 } }
+
+abbrev unsound : {A : Type 0} → Answer A
+unsound = A.refused 21 []
 
 abbrev count : ℕ → ℕ → Held → Answer Count
 count spans bytes h = A.given (record { spans = spans; bytes = bytes; reader = h })
@@ -110,6 +128,36 @@ table =
     ∷ seeksAfter 512 B [] fromEnd (pos 18446744073709547616) (A.refused 20 [])
     ∷ standsAfter 512 B (to 1600 ∷ []) (A.given nowhere)
     ∷ standsAfter 512 B (to 5000 ∷ []) (A.given nowhere)
+    -- neighbouring holes aren't joined; the data's end stops a read before the next run is fetched; a seek to the place changes nothing;
+    -- a place past the data
+    ∷ readsAfter 512 (0x01 ∷ 0x01 ∷ 0x01 ∷ 0x01 ∷ []) [] 1024 (replicate 6 7) (count 2 1024 (held 4 0 (some (empty 512)) 512 1024)) (0 ∷ 512 ∷ 0 ∷ 0 ∷ 512 ∷ 0 ∷ [])
+    ∷ readsBy B (record { cluster = 512; reader = record { stand = record { cursor = 3; lcn = 10; current = some (at 1024 5120); displacement = 1024 }; place = 4000; size = 4000 } }) 512 (replicate 3 7)
+    (count 0 0 (held 3 10 (some (at 1024 5120)) 1024 4000)) (replicate 3 7)
+    ∷ seeksAfter 512 B (three 1024 ∷ []) fromPlace (pos 0) (A.given (held 3 10 (some (at 1024 5120)) 1024 1024))
+    ∷ readsAfter 512 B (to 4001 ∷ []) 1 (replicate 3 7) (count 0 0 (held 11 13 (some (at 1024 6656)) 929 4001)) (replicate 3 7)
+    -- what is unsound, part by part, with its neighbour that is not; 21 before 20; the store is left
+    ∷ opensAt 511 B unsound
+    ∷ opensAt 4194304 B unsound
+    ∷ seeksBy B (made 511 0 none 0) fromStart (negsuc 0) unsound
+    ∷ seeksBy B (made 512 0 none 0) fromStart (negsuc 0) (A.refused 20 [])
+    ∷ readsBy B (made 511 0 none 0) 10 (replicate 3 7) unsound (replicate 3 7)
+    ∷ standsBy (made 511 0 none 0) unsound
+    ∷ seeksBy B (made 512 13 none 0) fromPlace (pos 0) unsound
+    ∷ seeksBy B (made 512 12 none 0) fromPlace (pos 0) (A.given (made 512 12 none 0))
+    ∷ readsBy B (made 512 13 none 0) 10 (replicate 3 7) unsound (replicate 3 7)
+    ∷ standsBy (made 512 13 none 0) (A.given nowhere)
+    ∷ seeksBy B (made 512 0 none 1) fromPlace (pos 0) unsound
+    ∷ readsBy B (made 512 0 none 1) 10 (replicate 3 7) unsound (replicate 3 7)
+    ∷ standsBy (made 512 0 none 1) unsound
+    ∷ seeksBy B (made 512 3 (some (at 10 0)) 11) fromPlace (pos 0) unsound
+    ∷ readsBy B (made 512 3 (some (at 10 0)) 11) 10 (replicate 3 7) unsound (replicate 3 7)
+    ∷ standsBy (made 512 3 (some (at 10 0)) 11) unsound
+    ∷ standsBy (made 512 3 (some (at 10 0)) 10) (A.given (atByte 10))
+    ∷ seeksBy B (made 512 3 (some (at 10 18446744073709551606)) 4) fromPlace (pos 0) unsound
+    ∷ readsBy B (made 512 3 (some (at 10 18446744073709551606)) 4) 10 (replicate 3 7) unsound (replicate 3 7)
+    ∷ standsBy (made 512 3 (some (at 10 18446744073709551606)) 4) unsound
+    ∷ standsBy (made 512 3 (some (at 10 18446744073709551605)) 4) (A.given (atByte 18446744073709551609))
+    ∷ standsBy (made 512 3 (some (empty 18446744073709551615)) 7) (A.given nowhere)
     -- the lookup rule on B, and on a list that breaks
     ∷ looksUp 512 B 0 (W.position 5120)
     ∷ looksUp 512 B 1023 (W.position 6143)
@@ -129,4 +177,4 @@ table =
 
 pub cases : AllHold table
 unfolding pick little twos unsigned signed within isPower powerOfTwo between powerBetween clusterSound isHole ends deltaPart countPart step next unroll listedBy listed byte lookup listFits lookedUp leftOf settle forward opened seekTo base target seek further here give fetch turn follow read placeSound currentSound sound soundIn opening seeking reading words standing after history
-cases = (refl, (refl, (refl, ((refl, refl), ((refl, refl), (refl, (refl, (refl, (refl, (refl, (refl, (refl, (refl, (refl, (refl, (refl, (refl, (refl, (refl, (refl, ((refl, refl), ((refl, refl), (refl, (refl, ((refl, refl), ((refl, refl), (refl, (refl, (refl, (refl, (refl, (refl, (refl, (refl, (refl, (refl, (refl, (refl, (refl, (refl, (refl, (refl, (refl, (refl, (refl, (refl, tt))))))))))))))))))))))))))))))))))))))))))))))
+cases = (refl, (refl, (refl, ((refl, refl), ((refl, refl), (refl, (refl, (refl, (refl, (refl, (refl, (refl, (refl, (refl, (refl, (refl, (refl, (refl, (refl, (refl, ((refl, refl), ((refl, refl), (refl, (refl, ((refl, refl), ((refl, refl), (refl, (refl, (refl, (refl, (refl, (refl, ((refl, refl), ((refl, refl), (refl, ((refl, refl), (refl, (refl, (refl, (refl, ((refl, refl), (refl, (refl, (refl, ((refl, refl), (refl, (refl, ((refl, refl), (refl, (refl, ((refl, refl), (refl, (refl, (refl, ((refl, refl), (refl, (refl, (refl, (refl, (refl, (refl, (refl, (refl, (refl, (refl, (refl, (refl, (refl, (refl, (refl, (refl, (refl, tt))))))))))))))))))))))))))))))))))))))))))))))))))))))))))))))))))))))))

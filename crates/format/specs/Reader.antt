@@ -1,4 +1,4 @@
--- The reader as the scope lists its parts, opening, seeking, reading. Over any decoder of runs.
+-- The reader of a list: opening, seeking, reading. Over any decoder of runs, so with no cluster size; `Held` in Calls has all seven parts.
 use Prim.Native.Nat.{ℕ, zero, suc, _+_, _-_, min}
 use mathlib.Core.List.{List, [], _∷_}
 use lib.Dec.{ltb, leb, eqb}

@@ -1,0 +1,2 @@
+mod Fit
+pub mod Packed

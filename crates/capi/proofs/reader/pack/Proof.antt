@@ -1,0 +1,45 @@
+-- Four runs of four words are the sixteen.
+use borrow.Author.Needs.{needs}
+use Rattle.capi.proofs.reader.pack.Statement.{statement}
+use Rattle.capi.proofs.reader.pack.Tie as tie
+
+kind-of-requires : tie.Need-kind-of-requires
+kind-of-requires c κs = search needs
+
+size-of-requires : tie.Need-size-of-requires
+size-of-requires c κs = search needs
+
+place-of-requires : tie.Need-place-of-requires
+place-of-requires c κs = search needs
+
+four-requires : tie.Need-four-requires
+four-requires c κs = search needs
+
+four-requires-2 : tie.Need-four-requires-2
+four-requires-2 c κs = search needs
+
+four-requires-3 : tie.Need-four-requires-3
+four-requires-3 c κs = search needs
+
+four-requires-4 : tie.Need-four-requires-4
+four-requires-4 c κs = search needs
+
+same-length : tie.Need-same-length
+same-length c = search needs
+
+returns : tie.Need-returns
+returns c = rw (c .before .before .four4 .ensures, c .before .before .before .before .before .before .four3 .ensures, c .before .before .before .before .before .before .before .before .before .before .four2 .ensures, c .before .before .before .before .before .before .before .before .before .before .before .before .before .before .four .ensures, c .before .before .before .before .before .before .before .before .before .before .before .before .before .before .before .before .place-of .ensures, c .before .before .before .before .before .before .before .before .before .before .before .before .before .before .before .before .before .size-of .ensures, c .before .before .before .before .before .before .before .before .before .before .before .before .before .before .before .before .before .before .kind-of .ensures)
+
+pub pack-spec : {M : Type 1} → statement M
+pack-spec =
+    tie.close
+    (tie.spec
+    kind-of-requires
+    size-of-requires
+    place-of-requires
+    four-requires
+    four-requires-2
+    four-requires-3
+    four-requires-4
+    same-length
+    returns)

@@ -1,0 +1,150 @@
+// A reader as sixteen words, there and back.
+use crate::answers;
+use crate::stores;
+use answers::Told;
+use data_runs::Place;
+use data_runs::Run;
+use non_resident::Current;
+use non_resident::From;
+use non_resident::Outcome;
+use non_resident::Reader;
+use non_resident::Sought;
+use stores::four;
+ghost use mathlib.Core.Path.{_≡_};
+ghost use Prim.Native.Nat.{_≤_};
+ghost use lib.ListN.{length};
+ghost use lib.Seq.{sets};
+ghost use Rattle.data_runs.specs.Shown.{shownPlace};
+ghost use Rattle.non_resident.specs.Shown.{seen, shownCurrent, shownFrom, shownSought, shownOutcome};
+ghost use Rattle.capi.specs.Words.{runKind, currentKind, currentSize, currentPlace, packed, currentOf, heldOf, readerLeft, heldCount, tellHeld, tellCount, fromOf};
+ghost use Rattle.capi.specs.Shown.{shown};
+
+fn current(kind: u64, size: u64, place: u64) -> Current
+    ensures { λ r. ⌜ shownCurrent r ≡ currentOf kind size place ⌝ }
+{
+    if kind == 0 {
+        return Current::Nothing;
+    }
+    if kind == 1 {
+        return Current::At(Run {
+            size,
+            place: Place::Disk(place),
+        });
+    }
+    Current::At(Run {
+        size,
+        place: Place::Hole,
+    })
+}
+
+pub fn unpack(ws: &[u64]) -> Reader
+    requires { ⌜ 16 ≤ length (now ws) ⌝ }
+    ensures { λ r. ⌜ seen r ≡ heldOf (now (ws .entry)) ⌝ }
+{
+    Reader {
+        cluster: ws[0],
+        cursor: ws[1] as usize,
+        lcn: ws[2],
+        current: current(ws[3], ws[4], ws[5]),
+        displacement: ws[6],
+        place: ws[7],
+        size: ws[8],
+    }
+}
+
+fn run_kind(p: Place) -> u64
+    ensures { λ r. ⌜ r ≡ runKind (shownPlace p) ⌝ }
+{
+    match p {
+        Place::Disk(_) => 1,
+        Place::Hole => 2,
+    }
+}
+
+fn kind_of(k: Current) -> u64
+    ensures { λ r. ⌜ r ≡ currentKind (shownCurrent k) ⌝ }
+{
+    match k {
+        Current::Nothing => 0,
+        Current::At(run) => {
+            let p = run.place;
+            run_kind(p)
+        }
+    }
+}
+
+fn size_of(k: Current) -> u64
+    ensures { λ r. ⌜ r ≡ currentSize (shownCurrent k) ⌝ }
+{
+    match k {
+        Current::Nothing => 0,
+        Current::At(run) => run.size,
+    }
+}
+
+fn place_of(k: Current) -> u64
+    ensures { λ r. ⌜ r ≡ currentPlace (shownCurrent k) ⌝ }
+{
+    match k {
+        Current::Nothing => 0,
+        Current::At(run) => {
+            let p = run.place;
+            answers::position_of(p)
+        }
+    }
+}
+
+fn pack(ws: &mut [u64], r: Reader)
+    requires { ⌜ 16 ≤ length (now ws) ⌝ }
+    ensures { λ _. ⌜ now (ws .exit) ≡ sets (now (ws .entry)) 0 (packed (seen r)) ⌝ }
+{
+    let k = r.current;
+    let kind = kind_of(k);
+    let size = size_of(k);
+    let place = place_of(k);
+    four(ws, 0, r.cluster, r.cursor as u64, r.lcn, kind);
+    four(ws, 4, size, place, r.displacement, r.place);
+    four(ws, 8, r.size, 0, 0, 0);
+    four(ws, 12, 0, 0, 0, 0);
+}
+
+// The reader that an opening or a seek gives, into its words; a refusal leaves them.
+pub fn keep(ws: &mut [u64], x: Sought) -> Told
+    requires { ⌜ 16 ≤ length (now ws) ⌝ }
+    ensures { λ r. ⌜ (shown r ≡ tellHeld (shownSought x)) × (now (ws .exit) ≡ readerLeft (now (ws .entry)) (shownSought x)) ⌝ }
+{
+    match x {
+        Sought::At(r) => {
+            pack(ws, r);
+            answers::accepted(0, 0)
+        }
+        Sought::Refused(x) => answers::refused(x),
+    }
+}
+
+// The same for a read.
+pub fn keep_count(ws: &mut [u64], x: Outcome) -> Told
+    requires { ⌜ 16 ≤ length (now ws) ⌝ }
+    ensures { λ r. ⌜ (shown r ≡ tellCount (shownOutcome x)) × (now (ws .exit) ≡ readerLeft (now (ws .entry)) (heldCount (shownOutcome x))) ⌝ }
+{
+    match x {
+        Outcome::Given(g) => {
+            let r = g.reader;
+            pack(ws, r);
+            answers::accepted(g.spans as u64, g.bytes)
+        }
+        Outcome::Refused(x) => answers::refused(x),
+    }
+}
+
+pub fn from_of(n: u64) -> From
+    ensures { λ r. ⌜ shownFrom r ≡ fromOf n ⌝ }
+{
+    if n == 0 {
+        return From::Start;
+    }
+    if n == 1 {
+        return From::Place;
+    }
+    From::End
+}

@@ -1,0 +1,42 @@
+// Words into lent stores.
+use crate::answers;
+use answers::Told;
+ghost use mathlib.Core.Path.{_≡_};
+ghost use mathlib.Core.List.{[], _∷_};
+ghost use Prim.Native.Nat.{_+_, _≤_};
+ghost use lib.ListN.{length};
+ghost use lib.Seq.{sets};
+ghost use Rattle.capi.specs.Words.{fits, bothFit, answered, written};
+ghost use Rattle.capi.specs.Shown.{shown};
+
+// What a call answers when a store is too short for it.
+pub const SHORT: u64 = 255;
+
+pub fn four(store: &mut [u64], at: usize, a: u64, b: u64, c: u64, d: u64)
+    requires { ⌜ at + 4 ≤ length (now store) ⌝ }
+    ensures { λ _. ⌜ now (store .exit) ≡ sets (now (store .entry)) at (a ∷ b ∷ c ∷ d ∷ []) ⌝ }
+{
+    store[at] = a;
+    store[at + 1] = b;
+    store[at + 2] = c;
+    store[at + 3] = d;
+}
+
+pub fn put(out: &mut [u64], t: Told) -> u64
+    requires { ⌜ 8 ≤ length (now out) ⌝ }
+    ensures { λ r. ⌜ (r ≡ shown t .number) × (now (out .exit) ≡ sets (now (out .entry)) 0 (shown t .words)) ⌝ }
+{
+    four(out, 0, t.a, t.b, t.c, t.d);
+    four(out, 4, t.e, t.f, t.g, t.h);
+    t.number
+}
+
+// The answer of a call that changes nothing else.
+pub fn tell(out: &mut [u64], t: Told) -> u64
+    ensures { λ r. ⌜ (r ≡ answered (fits (now (out .entry))) (shown t)) × (now (out .exit) ≡ written (fits (now (out .entry))) (now (out .entry)) (shown t)) ⌝ }
+{
+    if out.len() < 8 {
+        return SHORT;
+    }
+    put(out, t)
+}
