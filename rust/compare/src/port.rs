@@ -1,0 +1,228 @@
+//! The port's C interface, made safe, with the planted slips.
+use std::sync::OnceLock;
+
+use crate::answer::Answer;
+use crate::slip::{self, Slip};
+use oracle::api::{Run, Span, Stand};
+
+pub static SLIP: OnceLock<Slip> = OnceLock::new();
+
+/// Number of words in `out`, and one behind them that must keep its value.
+const OUT: usize = 8;
+const MARK: u64 = 0xa5a5_a5a5_a5a5_a5a5;
+pub const READER: usize = 16;
+
+extern "C" {
+    fn archthimble_lcn_plus(lcn: u64, delta: i64, out: *mut u64, out_len: usize) -> u64;
+    fn archthimble_lcn_position(lcn: u64, cluster: u64, out: *mut u64, out_len: usize) -> u64;
+    fn archthimble_geometry(sector: *const u8, sector_len: usize, out: *mut u64, out_len: usize) -> u64;
+    fn archthimble_repair(record: *mut u8, record_len: usize, out: *mut u64, out_len: usize) -> u64;
+    fn archthimble_next_run(list: *const u8, list_len: usize, cluster: u64, at: u64, lcn: u64, out: *mut u64, out_len: usize) -> u64;
+    fn archthimble_lookup(list: *const u8, list_len: usize, cluster: u64, offset: u64, out: *mut u64, out_len: usize) -> u64;
+    fn archthimble_open(
+        list: *const u8,
+        list_len: usize,
+        cluster: u64,
+        size: u64,
+        reader: *mut u64,
+        reader_len: usize,
+        out: *mut u64,
+        out_len: usize,
+    ) -> u64;
+    fn archthimble_seek(
+        list: *const u8,
+        list_len: usize,
+        reader: *mut u64,
+        reader_len: usize,
+        from: u64,
+        by: u64,
+        out: *mut u64,
+        out_len: usize,
+    ) -> u64;
+    fn archthimble_seek_signed(
+        list: *const u8,
+        list_len: usize,
+        reader: *mut u64,
+        reader_len: usize,
+        from: u64,
+        by: i64,
+        out: *mut u64,
+        out_len: usize,
+    ) -> u64;
+    fn archthimble_read(
+        list: *const u8,
+        list_len: usize,
+        reader: *mut u64,
+        reader_len: usize,
+        w: u64,
+        store: *mut u64,
+        store_len: usize,
+        out: *mut u64,
+        out_len: usize,
+    ) -> u64;
+    fn archthimble_data_position(reader: *const u64, reader_len: usize, out: *mut u64, out_len: usize) -> u64;
+}
+
+/// How many values each refusal has, by its number.
+const VALUES: [usize; 23] = [0, 0, 2, 1, 1, 1, 0, 2, 1, 1, 0, 1, 3, 1, 1, 1, 1, 2, 1, 1, 0, 0, 0];
+
+/// Makes a call with a marked `out` and reads its answer, of which the first `words` count. Words that must be 0 or kept and aren't are
+/// an answer that nothing else equals.
+fn told(words: usize, call: impl FnOnce(*mut u64, usize) -> u64) -> Answer {
+    let mut out = [MARK; OUT + 1];
+    let number = call(out.as_mut_ptr(), out.len());
+    let used = if number == 0 { words } else { VALUES.get(number as usize).copied().unwrap_or(0) };
+    if out[OUT] != MARK || out[used..OUT].iter().any(|w| *w != 0) {
+        return Answer::Refused(1000 + number, vec![]);
+    }
+    match number {
+        0 => Answer::Accepted(out[..used].to_vec()),
+        n => Answer::Refused(n, out[..used].to_vec()),
+    }
+}
+
+fn slip() -> Slip {
+    SLIP.get().copied().unwrap_or(Slip::None)
+}
+
+pub fn lcn_plus(lcn: u64, delta: i64) -> Answer {
+    // SAFETY: `out` is good for the length beside it.
+    told(2, |out, n| unsafe { archthimble_lcn_plus(lcn, delta, out, n) })
+}
+
+pub fn lcn_position(lcn: u64, cluster: u64) -> Answer {
+    // SAFETY: as above.
+    told(2, |out, n| unsafe { archthimble_lcn_position(lcn, cluster, out, n) })
+}
+
+pub fn geometry(sector: &[u8]) -> Answer {
+    let sector = &slip::sector(slip(), sector)[..];
+    // SAFETY: both pointers are good for the lengths beside them, and so in all calls below.
+    told(8, |out, n| unsafe { archthimble_geometry(sector.as_ptr(), sector.len(), out, n) })
+}
+
+pub fn repair(record: &mut [u8]) -> Answer {
+    let kept = slip::before_repair(slip(), record);
+    // SAFETY: see `geometry`; the record is lent for writing.
+    let answer = told(0, |out, n| unsafe { archthimble_repair(record.as_mut_ptr(), record.len(), out, n) });
+    slip::after_repair(record, kept);
+    answer
+}
+
+pub fn next_run(list: &[u8], cluster: u64, at: u64, lcn: u64) -> Answer {
+    // SAFETY: see `geometry`.
+    let answer = told(6, |out, n| unsafe { archthimble_next_run(list.as_ptr(), list.len(), cluster, at, lcn, out, n) });
+    slip::run(slip(), answer, list, cluster, at)
+}
+
+pub fn lookup(list: &[u8], cluster: u64, offset: u64) -> Answer {
+    let offset = slip::offset(slip(), offset);
+    // SAFETY: see `geometry`.
+    told(2, |out, n| unsafe { archthimble_lookup(list.as_ptr(), list.len(), cluster, offset, out, n) })
+}
+
+#[derive(Clone, Copy, Debug, PartialEq)]
+pub enum By {
+    Unsigned(u64),
+    Signed(i64),
+}
+
+/// What a read of the port gave.
+pub struct Given {
+    pub answer: Answer,
+    pub spans: Vec<Span>,
+    pub bytes: u64,
+}
+
+/// The words of a reader.
+#[derive(Clone, Debug, PartialEq)]
+pub struct Reader(pub [u64; READER]);
+
+impl Reader {
+    pub fn open(list: &[u8], cluster: u64, size: u64) -> (Answer, Reader) {
+        let mut r = [MARK; READER];
+        let answer = told(0, |out, n| {
+            // SAFETY: see `geometry`; the reader is good for its length.
+            unsafe { archthimble_open(list.as_ptr(), list.len(), cluster, size, r.as_mut_ptr(), READER, out, n) }
+        });
+        let kept = answer.is_accepted() || r == [MARK; READER];
+        let opened = Reader(r);
+        (opened.checked(if kept { answer } else { Answer::Refused(1000, vec![]) }), opened)
+    }
+
+    /// After an accepted call the words that say nothing must be 0; if they aren't, the answer becomes one of no number.
+    fn checked(&self, answer: Answer) -> Answer {
+        let w = &self.0;
+        let silent = match w[3] {
+            0 => w[4] == 0 && w[5] == 0,
+            1 => true,
+            kind => kind == 2 && w[5] == 0,
+        };
+        if answer.is_accepted() && !(silent && w[9..].iter().all(|w| *w == 0)) {
+            Answer::Refused(1000, vec![])
+        } else {
+            answer
+        }
+    }
+
+    pub fn seek(&mut self, list: &[u8], from: u64, by: By) -> Answer {
+        slip::before_seek(slip(), &mut self.0, from, by);
+        let r = self.0.as_mut_ptr();
+        let answer = told(0, |out, n| match by {
+            // SAFETY: see `open`.
+            By::Unsigned(by) => unsafe { archthimble_seek(list.as_ptr(), list.len(), r, READER, from, by, out, n) },
+            // SAFETY: see `open`.
+            By::Signed(by) => unsafe { archthimble_seek_signed(list.as_ptr(), list.len(), r, READER, from, by, out, n) },
+        });
+        self.checked(answer)
+    }
+
+    /// Reads with a store of `words` words. Words behind the spans that didn't keep their values turn the answer into one of no number.
+    pub fn read(&mut self, list: &[u8], w: u64, words: usize) -> Given {
+        let mut store = vec![MARK; words];
+        let size = slip::before_read(slip(), &mut self.0);
+        let r = self.0.as_mut_ptr();
+        let mut answer = told(2, |out, n| {
+            // SAFETY: see `open`; the store is lent for writing.
+            unsafe { archthimble_read(list.as_ptr(), list.len(), r, READER, w, store.as_mut_ptr(), store.len(), out, n) }
+        });
+        self.0[8] = size;
+        let (count, bytes) = match &answer {
+            Answer::Accepted(words) => (words[0] as usize, words[1]),
+            _ => (0, 0),
+        };
+        let spans: Option<Vec<Span>> = store.chunks_exact(3).take(count).map(span).collect();
+        let sum = spans.iter().flatten().map(|s| s.length as u128).sum::<u128>();
+        let kept = store.get(3 * count..).is_some_and(|rest| rest.iter().all(|w| *w == MARK));
+        if !kept || spans.is_none() || sum != bytes as u128 {
+            answer = Answer::Refused(1000, vec![]);
+        }
+        let answer = self.checked(answer);
+        Given { answer, spans: spans.unwrap_or_default(), bytes }
+    }
+
+    pub fn data_position(&self) -> Answer {
+        // SAFETY: see `open`.
+        told(2, |out, n| unsafe { archthimble_data_position(self.0.as_ptr(), READER, out, n) })
+    }
+
+    pub fn stand(&self) -> Stand {
+        let w = &self.0;
+        let run = match w[3] {
+            0 => None,
+            1 => Some(Run { position: Some(w[5]), size: w[4] }),
+            _ => Some(Run { position: None, size: w[4] }),
+        };
+        Stand { cursor: w[1], lcn: w[2], run, displacement: w[6], place: w[7], size: w[8] }
+    }
+}
+
+/// A span of the store, or `None` where it is empty or its kind is none of the two.
+fn span(words: &[u64]) -> Option<Span> {
+    let position = match words[2] {
+        1 => Some(words[0]),
+        0 if words[0] == 0 => None,
+        _ => return None,
+    };
+    (words[1] > 0).then_some(Span { position, length: words[1] })
+}
