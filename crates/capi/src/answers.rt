@@ -61,13 +61,13 @@ fn three(number: u64, a: u64, b: u64, c: u64) -> Told
     }
 }
 
-pub fn accepted(a: u64, b: u64) -> Told
+pub(crate) fn accepted(a: u64, b: u64) -> Told
     ensures { λ r. ⌜ shown r ≡ accepted (two a b) ⌝ }
 {
     three(0, a, b, 0)
 }
 
-pub fn refused(x: Refusal) -> Told
+pub(crate) fn refused(x: Refusal) -> Told
     ensures { λ r. ⌜ shown r ≡ refusal (Refusals.number x) (Refusals.values x) ⌝ }
 {
     let n = x.number();
@@ -79,7 +79,7 @@ pub fn refused(x: Refusal) -> Told
     }
 }
 
-pub fn word(w: Word) -> Told
+pub(crate) fn word(w: Word) -> Told
     ensures { λ r. ⌜ shown r ≡ tellWord (shownWord w) ⌝ }
 {
     match w {
@@ -88,7 +88,7 @@ pub fn word(w: Word) -> Told
     }
 }
 
-pub fn geometry(x: Boot) -> Told
+pub(crate) fn geometry(x: Boot) -> Told
     ensures { λ r. ⌜ shown r ≡ tellBoot (Boot·Shown.shown x) ⌝ }
 {
     match x {
@@ -107,7 +107,7 @@ pub fn geometry(x: Boot) -> Told
     }
 }
 
-pub fn repaired(x: Repaired) -> Told
+pub(crate) fn repaired(x: Repaired) -> Told
     ensures { λ r. ⌜ shown r ≡ tellRepair (Record·Shown.outcome x []) ⌝ }
 {
     match x {
@@ -116,7 +116,7 @@ pub fn repaired(x: Repaired) -> Told
     }
 }
 
-pub fn position_of(p: Place) -> u64
+pub(crate) fn position_of(p: Place) -> u64
     ensures { λ r. ⌜ r ≡ position (shownPlace p) ⌝ }
 {
     match p {
@@ -134,7 +134,7 @@ fn kind_of(p: Place) -> u64
     }
 }
 
-pub fn run(x: Decoded) -> Told
+pub(crate) fn run(x: Decoded) -> Told
     ensures { λ r. ⌜ shown r ≡ tellStep (Runs·Shown.shown x) ⌝ }
 {
     match x {
@@ -157,7 +157,7 @@ pub fn run(x: Decoded) -> Told
     }
 }
 
-pub fn found(x: Found) -> Told
+pub(crate) fn found(x: Found) -> Told
     ensures { λ r. ⌜ shown r ≡ tellWhere (Lookup·Shown.shown x) ⌝ }
 {
     match x {
@@ -168,7 +168,7 @@ pub fn found(x: Found) -> Told
     }
 }
 
-pub fn data_position(x: Position) -> Told
+pub(crate) fn data_position(x: Position) -> Told
     ensures { λ r. ⌜ shown r ≡ tellPosition (shownPosition x) ⌝ }
 {
     match x {

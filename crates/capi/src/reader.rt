@@ -37,7 +37,7 @@ fn current(kind: u64, size: u64, place: u64) -> Current
     })
 }
 
-pub fn unpack(ws: &[u64]) -> Reader
+pub(crate) fn unpack(ws: &[u64]) -> Reader
     requires { ⌜ 16 ≤ length (now ws) ⌝ }
     ensures { λ r. ⌜ seen r ≡ heldOf (now (ws .entry)) ⌝ }
 {
@@ -109,7 +109,7 @@ fn pack(ws: &mut [u64], r: Reader)
 }
 
 // The reader that an opening or a seek gives, into its words; a refusal leaves them.
-pub fn keep(ws: &mut [u64], x: Sought) -> Told
+pub(crate) fn keep(ws: &mut [u64], x: Sought) -> Told
     requires { ⌜ 16 ≤ length (now ws) ⌝ }
     ensures { λ r. ⌜ (shown r ≡ tellHeld (shownSought x)) × (now (ws .exit) ≡ readerLeft (now (ws .entry)) (shownSought x)) ⌝ }
 {
@@ -123,7 +123,7 @@ pub fn keep(ws: &mut [u64], x: Sought) -> Told
 }
 
 // The same for a read.
-pub fn keep_count(ws: &mut [u64], x: Outcome) -> Told
+pub(crate) fn keep_count(ws: &mut [u64], x: Outcome) -> Told
     requires { ⌜ 16 ≤ length (now ws) ⌝ }
     ensures { λ r. ⌜ (shown r ≡ tellCount (shownOutcome x)) × (now (ws .exit) ≡ readerLeft (now (ws .entry)) (heldCount (shownOutcome x))) ⌝ }
 {
@@ -137,7 +137,7 @@ pub fn keep_count(ws: &mut [u64], x: Outcome) -> Told
     }
 }
 
-pub fn from_of(n: u64) -> From
+pub(crate) fn from_of(n: u64) -> From
     ensures { λ r. ⌜ shownFrom r ≡ fromOf n ⌝ }
 {
     if n == 0 {

@@ -10,9 +10,9 @@ ghost use Rattle.capi.specs.Words.{fits, bothFit, answered, written};
 ghost use Rattle.capi.specs.Shown.{shown};
 
 // What a call answers when a store is too short for it.
-pub const SHORT: u64 = 255;
+pub(crate) const SHORT: u64 = 255;
 
-pub fn four(store: &mut [u64], at: usize, a: u64, b: u64, c: u64, d: u64)
+pub(crate) fn four(store: &mut [u64], at: usize, a: u64, b: u64, c: u64, d: u64)
     requires { ⌜ at + 4 ≤ length (now store) ⌝ }
     ensures { λ _. ⌜ now (store .exit) ≡ sets (now (store .entry)) at (a ∷ b ∷ c ∷ d ∷ []) ⌝ }
 {
@@ -22,7 +22,7 @@ pub fn four(store: &mut [u64], at: usize, a: u64, b: u64, c: u64, d: u64)
     store[at + 3] = d;
 }
 
-pub fn put(out: &mut [u64], t: Told) -> u64
+pub(crate) fn put(out: &mut [u64], t: Told) -> u64
     requires { ⌜ 8 ≤ length (now out) ⌝ }
     ensures { λ r. ⌜ (r ≡ shown t .number) × (now (out .exit) ≡ sets (now (out .entry)) 0 (shown t .words)) ⌝ }
 {
@@ -32,7 +32,7 @@ pub fn put(out: &mut [u64], t: Told) -> u64
 }
 
 // The answer of a call that changes nothing else.
-pub fn tell(out: &mut [u64], t: Told) -> u64
+pub(crate) fn tell(out: &mut [u64], t: Told) -> u64
     ensures { λ r. ⌜ (r ≡ answered (fits (now (out .entry))) (shown t)) × (now (out .exit) ≡ written (fits (now (out .entry))) (now (out .entry)) (shown t)) ⌝ }
 {
     if out.len() < 8 {
