@@ -12,7 +12,7 @@ use crate::record::Record;
 use crate::refusal::refusal;
 use crate::traits::NtfsReadSeek;
 use crate::types::{Lcn, NtfsPosition, Vcn};
-use binrw::io::{Cursor, SeekFrom};
+use binrw::io::{Cursor, Read, Seek, SeekFrom};
 use binrw::BinRead;
 
 /// Where lists and records are said to stand. At 0 the Rust's errors would lose their place.
@@ -191,6 +191,11 @@ impl Stream<'_> {
             Answer::Refused(r) => Answer::Refused(r),
             Answer::Panicked => Answer::Panicked,
         }
+    }
+
+    /// Reads from any disk: the number of bytes.
+    pub fn read_from<D: Read + Seek>(&mut self, disk: &mut D, buffer: &mut [u8]) -> Answer<usize> {
+        run(0, || self.0.read(disk, buffer))
     }
 
     /// Reads from a disk that hands out nothing: the number of bytes.
