@@ -159,9 +159,6 @@ readerLeft ws (refused k v) = ws
 abbrev pub heldCount : Answer Count → Answer Held
 heldCount x = then x (λ c. given (c .reader))
 
-abbrev pub kept : Bool → List ℕ → List ℕ → List ℕ
-kept ok after before = pick ok after before
-
 -- Where from: 0 the start, 1 the place, any other number the end.
 abbrev pub fromOf : ℕ → From
 fromOf n = pick (eqb n 0) fromStart (pick (eqb n 1) fromPlace fromEnd)

@@ -1,6 +1,6 @@
 /* The reading core of NTFS for C. Every function is proved: whatever bytes and numbers come in, it ends, stays inside what it was lent
  * (each pointer must be good for as many elements as the length beside it says; it may be null where that is 0), and answers what the
- * definitions in crates/format/specs say.
+ * definitions in crates/format/specs say. What is lent to one call must not overlap, and words must stand where a uint64_t may.
  *
  * Each call answers a number: 0 accepted, otherwise the refusal's number (1 to 22); 255 where a store is too short, and then nothing was
  * changed. `out` must have ARCHTHIMBLE_OUT words or more. Accepted, it holds what the call's comment says, the rest of the eight words 0;
