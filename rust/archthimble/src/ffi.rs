@@ -1,67 +1,12 @@
-//! The C interface as `include/archthimble.h` declares it, and one safe function for each call of it. All `unsafe` of the crate is here.
+//! One safe function for each call of the C interface. All `unsafe` of the crate is here.
 //!
 //! What makes the calls sound is the same each time: every pointer comes from a slice or an array with its own length beside it, the slices
 //! to be written are borrowed for that, and the library is proved to stay inside. Slices of length 0 may have any pointer.
+use crate::raw::*;
 use crate::refusal::Refusal;
-
-/// Words of an answer: ARCHTHIMBLE_OUT in the header.
-pub(crate) const OUT: usize = 8;
-/// Words of a reader: ARCHTHIMBLE_READER in the header.
-pub(crate) const READER: usize = 16;
 
 pub(crate) type Out = [u64; OUT];
 pub(crate) type Words = [u64; READER];
-
-extern "C" {
-    fn archthimble_lcn_plus(lcn: u64, delta: i64, out: *mut u64, out_len: usize) -> u64;
-    fn archthimble_lcn_position(lcn: u64, cluster: u64, out: *mut u64, out_len: usize) -> u64;
-    fn archthimble_geometry(sector: *const u8, sector_len: usize, out: *mut u64, out_len: usize) -> u64;
-    fn archthimble_repair(record: *mut u8, record_len: usize, out: *mut u64, out_len: usize) -> u64;
-    fn archthimble_next_run(list: *const u8, list_len: usize, cluster: u64, at: u64, lcn: u64, out: *mut u64, out_len: usize) -> u64;
-    fn archthimble_lookup(list: *const u8, list_len: usize, cluster: u64, offset: u64, out: *mut u64, out_len: usize) -> u64;
-    fn archthimble_open(
-        list: *const u8,
-        list_len: usize,
-        cluster: u64,
-        size: u64,
-        reader: *mut u64,
-        reader_len: usize,
-        out: *mut u64,
-        out_len: usize,
-    ) -> u64;
-    fn archthimble_seek(
-        list: *const u8,
-        list_len: usize,
-        reader: *mut u64,
-        reader_len: usize,
-        from: u64,
-        by: u64,
-        out: *mut u64,
-        out_len: usize,
-    ) -> u64;
-    fn archthimble_seek_signed(
-        list: *const u8,
-        list_len: usize,
-        reader: *mut u64,
-        reader_len: usize,
-        from: u64,
-        by: i64,
-        out: *mut u64,
-        out_len: usize,
-    ) -> u64;
-    fn archthimble_read(
-        list: *const u8,
-        list_len: usize,
-        reader: *mut u64,
-        reader_len: usize,
-        w: u64,
-        store: *mut u64,
-        store_len: usize,
-        out: *mut u64,
-        out_len: usize,
-    ) -> u64;
-    fn archthimble_data_position(reader: *const u64, reader_len: usize, out: *mut u64, out_len: usize) -> u64;
-}
 
 /// Makes a call with an `out` that is long enough, so that the answer "too short" never comes, and sorts what it says.
 fn told(call: impl FnOnce(&mut Out) -> u64) -> Result<Out, Refusal> {

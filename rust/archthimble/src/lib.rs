@@ -13,6 +13,7 @@
 #[allow(unsafe_code)]
 mod ffi;
 mod geometry;
+mod raw;
 mod reader;
 mod record;
 mod refusal;

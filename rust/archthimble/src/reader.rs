@@ -67,7 +67,7 @@ impl Reader {
     /// # Errors
     /// 21 for a cluster size that can't be one, 13 to 19 for the first run.
     pub fn open(list: &[u8], cluster: u64, size: u64) -> Result<Reader, Refusal> {
-        let mut words = [0; ffi::READER];
+        let mut words = [0; crate::raw::READER];
         ffi::open(list, cluster, size, &mut words)?;
         Ok(Reader { words })
     }

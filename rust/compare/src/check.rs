@@ -92,7 +92,7 @@ fn call(w: &mut Words, list: &[u8], cluster: u64, size: u64, reader: &mut Reader
 fn history(w: &mut Words) -> bool {
     let (cluster, size) = (w.word(), w.word());
     let list = w.bytes();
-    let mut reader = Reader([0; port::READER]);
+    let mut reader = Reader([0; crate::raw::READER]);
     (0..w.word()).all(|_| call(w, &list, cluster, size, &mut reader))
 }
 

@@ -11,6 +11,8 @@ mod lists;
 mod pair;
 mod port;
 mod random;
+#[path = "../../archthimble/src/raw.rs"]
+mod raw;
 mod records;
 mod replay;
 mod report;

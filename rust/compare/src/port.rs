@@ -2,66 +2,14 @@
 use std::sync::OnceLock;
 
 use crate::answer::Answer;
+use crate::raw::*;
 use crate::slip::{self, Slip};
 use oracle::api::{Run, Span, Stand};
 
 pub static SLIP: OnceLock<Slip> = OnceLock::new();
 
-/// Number of words in `out`, and one behind them that must keep its value.
-const OUT: usize = 8;
+/// Behind the words of `out` stands one that must keep its value.
 const MARK: u64 = 0xa5a5_a5a5_a5a5_a5a5;
-pub const READER: usize = 16;
-
-extern "C" {
-    fn archthimble_lcn_plus(lcn: u64, delta: i64, out: *mut u64, out_len: usize) -> u64;
-    fn archthimble_lcn_position(lcn: u64, cluster: u64, out: *mut u64, out_len: usize) -> u64;
-    fn archthimble_geometry(sector: *const u8, sector_len: usize, out: *mut u64, out_len: usize) -> u64;
-    fn archthimble_repair(record: *mut u8, record_len: usize, out: *mut u64, out_len: usize) -> u64;
-    fn archthimble_next_run(list: *const u8, list_len: usize, cluster: u64, at: u64, lcn: u64, out: *mut u64, out_len: usize) -> u64;
-    fn archthimble_lookup(list: *const u8, list_len: usize, cluster: u64, offset: u64, out: *mut u64, out_len: usize) -> u64;
-    fn archthimble_open(
-        list: *const u8,
-        list_len: usize,
-        cluster: u64,
-        size: u64,
-        reader: *mut u64,
-        reader_len: usize,
-        out: *mut u64,
-        out_len: usize,
-    ) -> u64;
-    fn archthimble_seek(
-        list: *const u8,
-        list_len: usize,
-        reader: *mut u64,
-        reader_len: usize,
-        from: u64,
-        by: u64,
-        out: *mut u64,
-        out_len: usize,
-    ) -> u64;
-    fn archthimble_seek_signed(
-        list: *const u8,
-        list_len: usize,
-        reader: *mut u64,
-        reader_len: usize,
-        from: u64,
-        by: i64,
-        out: *mut u64,
-        out_len: usize,
-    ) -> u64;
-    fn archthimble_read(
-        list: *const u8,
-        list_len: usize,
-        reader: *mut u64,
-        reader_len: usize,
-        w: u64,
-        store: *mut u64,
-        store_len: usize,
-        out: *mut u64,
-        out_len: usize,
-    ) -> u64;
-    fn archthimble_data_position(reader: *const u64, reader_len: usize, out: *mut u64, out_len: usize) -> u64;
-}
 
 /// How many values each refusal has, by its number.
 const VALUES: [usize; 23] = [0, 0, 2, 1, 1, 1, 0, 2, 1, 1, 0, 1, 3, 1, 1, 1, 1, 2, 1, 1, 0, 0, 0];

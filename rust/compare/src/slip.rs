@@ -2,7 +2,8 @@
 use std::borrow::Cow;
 
 use crate::answer::Answer;
-use crate::port::{By, READER};
+use crate::port::By;
+use crate::raw::READER;
 
 #[derive(Clone, Copy, Debug, PartialEq)]
 pub enum Slip {
