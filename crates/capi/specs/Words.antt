@@ -15,7 +15,7 @@ use Rattle.format.specs.Record.{Repair as R}
 use Rattle.format.specs.Runs.{Place, Step}
 use Rattle.format.specs.Runs.Place.{disk, hole}
 use Rattle.format.specs.Runs.Step.{over, found, faulty}
-use Rattle.format.specs.Listed.{Answer, then, Where as W}
+use Rattle.format.specs.Listed.{Answer, Where as W}
 use Rattle.format.specs.Listed.Answer.{given, refused}
 use Rattle.format.specs.Reader.{Current, From, Position}
 use Rattle.format.specs.Reader.Current.{none, some}
@@ -130,12 +130,16 @@ abbrev pub currentPlace : Current → ℕ
 currentPlace none = 0
 currentPlace (some r) = position (r .place)
 
-abbrev pub packed : Held → List ℕ
-packed h =
+abbrev pub packedAs : ℕ → ℕ → ℕ → Held → List ℕ
+packedAs kind size place h =
     let r = h .reader in
     let s = r .stand in
-    h .cluster ∷ s .cursor ∷ s .lcn ∷ currentKind (s .current) ∷ currentSize (s .current) ∷ currentPlace (s .current) ∷ s .displacement ∷ r .place ∷ r .size
-    ∷ 0 ∷ 0 ∷ 0 ∷ 0 ∷ 0 ∷ 0 ∷ 0 ∷ []
+    h .cluster ∷ s .cursor ∷ s .lcn ∷ kind ∷ size ∷ place ∷ s .displacement ∷ r .place ∷ r .size ∷ 0 ∷ 0 ∷ 0 ∷ 0 ∷ 0 ∷ 0 ∷ 0 ∷ []
+
+abbrev pub packed : Held → List ℕ
+packed h =
+    let c = h .reader .stand .current in
+    packedAs (currentKind c) (currentSize c) (currentPlace c) h
 
 abbrev pub currentOf : ℕ → ℕ → ℕ → Current
 currentOf k size place = pick (eqb k 0) none (pick (eqb k 1) (some (record { size = size; place = disk place })) (some (record { size = size; place = hole })))
@@ -155,9 +159,6 @@ heldOf ws =
 abbrev pub readerLeft : List ℕ → Answer Held → List ℕ
 readerLeft ws (given h) = sets ws 0 (packed h)
 readerLeft ws (refused k v) = ws
-
-abbrev pub heldCount : Answer Count → Answer Held
-heldCount x = then x (λ c. given (c .reader))
 
 -- Where from: 0 the start, 1 the place, any other number the end.
 abbrev pub fromOf : ℕ → From

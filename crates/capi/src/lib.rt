@@ -20,8 +20,8 @@ ghost use Rattle.format.specs.Pick.{pick};
 ghost use Rattle.format.specs.Record.{repair};
 ghost use Rattle.format.specs.Runs.{next};
 ghost use Rattle.format.specs.Listed.{lookedUp};
-ghost use Rattle.format.specs.Calls.{opening, seeking, reading, counted, stored, standing};
-ghost use Rattle.capi.specs.Words.{fits, bothFit, answered, written, heldOf, fromOf, readerLeft, heldCount, recordLeft, tellWord, tellBoot, tellRepair, tellStep, tellWhere, tellHeld, tellCount, tellPosition};
+ghost use Rattle.format.specs.Calls.{opening, seeking, reading, counted, held, stored, standing};
+ghost use Rattle.capi.specs.Words.{fits, bothFit, answered, written, heldOf, fromOf, readerLeft, recordLeft, tellWord, tellBoot, tellRepair, tellStep, tellWhere, tellHeld, tellCount, tellPosition};
 
 // An LCN plus a signed delta: 1 and the sum, or 0 where it is below 0 or over 2^64 - 1.
 #[no_mangle]
@@ -154,7 +154,7 @@ pub extern "C" fn archthimble_read(
     store: &mut [u64],
     out: &mut [u64],
 ) -> u64
-    ensures { λ r. ⌜ (r ≡ answered (bothFit (now (reader .entry)) (now (out .entry))) (tellCount (counted (heldOf (now (reader .entry)) .cluster) (reading (now (list .entry)) (heldOf (now (reader .entry))) w (now (store .entry)))))) × (now (out .exit) ≡ written (bothFit (now (reader .entry)) (now (out .entry))) (now (out .entry)) (tellCount (counted (heldOf (now (reader .entry)) .cluster) (reading (now (list .entry)) (heldOf (now (reader .entry))) w (now (store .entry)))))) × (now (reader .exit) ≡ pick (bothFit (now (reader .entry)) (now (out .entry))) (readerLeft (now (reader .entry)) (heldCount (counted (heldOf (now (reader .entry)) .cluster) (reading (now (list .entry)) (heldOf (now (reader .entry))) w (now (store .entry)))))) (now (reader .entry))) × (now (store .exit) ≡ pick (bothFit (now (reader .entry)) (now (out .entry))) (stored (now (store .entry)) (reading (now (list .entry)) (heldOf (now (reader .entry))) w (now (store .entry)))) (now (store .entry))) ⌝ }
+    ensures { λ r. ⌜ (r ≡ answered (bothFit (now (reader .entry)) (now (out .entry))) (tellCount (counted (heldOf (now (reader .entry)) .cluster) (reading (now (list .entry)) (heldOf (now (reader .entry))) w (now (store .entry)))))) × (now (out .exit) ≡ written (bothFit (now (reader .entry)) (now (out .entry))) (now (out .entry)) (tellCount (counted (heldOf (now (reader .entry)) .cluster) (reading (now (list .entry)) (heldOf (now (reader .entry))) w (now (store .entry)))))) × (now (reader .exit) ≡ pick (bothFit (now (reader .entry)) (now (out .entry))) (readerLeft (now (reader .entry)) (held (counted (heldOf (now (reader .entry)) .cluster) (reading (now (list .entry)) (heldOf (now (reader .entry))) w (now (store .entry)))))) (now (reader .entry))) × (now (store .exit) ≡ pick (bothFit (now (reader .entry)) (now (out .entry))) (stored (now (store .entry)) (reading (now (list .entry)) (heldOf (now (reader .entry))) w (now (store .entry)))) (now (store .entry))) ⌝ }
 {
     if reader.len() < 16 {
         return SHORT;

@@ -14,9 +14,9 @@ ghost use mathlib.Core.Path.{_≡_};
 ghost use Prim.Native.Nat.{_≤_};
 ghost use lib.ListN.{length};
 ghost use lib.Seq.{sets};
-ghost use Rattle.data_runs.specs.Shown.{shownPlace};
+ghost use Rattle.format.specs.Calls.{held};
 ghost use Rattle.non_resident.specs.Shown.{seen, shownCurrent, shownFrom, shownSought, shownOutcome};
-ghost use Rattle.capi.specs.Words.{runKind, currentKind, currentSize, currentPlace, packed, currentOf, heldOf, readerLeft, heldCount, tellHeld, tellCount, fromOf};
+ghost use Rattle.capi.specs.Words.{packedAs, packed, currentOf, heldOf, readerLeft, tellHeld, tellCount, fromOf};
 ghost use Rattle.capi.specs.Shown.{shown};
 
 fn current(kind: u64, size: u64, place: u64) -> Current
@@ -52,60 +52,32 @@ pub(crate) fn unpack(ws: &[u64]) -> Reader
     }
 }
 
-fn run_kind(p: Place) -> u64
-    ensures { λ r. ⌜ r ≡ runKind (shownPlace p) ⌝ }
+fn lay(ws: &mut [u64], r: Reader, kind: u64, size: u64, place: u64)
+    requires { ⌜ 16 ≤ length (now ws) ⌝ }
+    ensures { λ _. ⌜ now (ws .exit) ≡ sets (now (ws .entry)) 0 (packedAs kind size place (seen r)) ⌝ }
 {
-    match p {
-        Place::Disk(_) => 1,
-        Place::Hole => 2,
-    }
+    four(ws, 0, r.cluster, r.cursor as u64, r.lcn, kind);
+    four(ws, 4, size, place, r.displacement, r.place);
+    four(ws, 8, r.size, 0, 0, 0);
+    four(ws, 12, 0, 0, 0, 0);
 }
 
-fn kind_of(k: Current) -> u64
-    ensures { λ r. ⌜ r ≡ currentKind (shownCurrent k) ⌝ }
-{
-    match k {
-        Current::Nothing => 0,
-        Current::At(run) => {
-            let p = run.place;
-            run_kind(p)
-        }
-    }
-}
-
-fn size_of(k: Current) -> u64
-    ensures { λ r. ⌜ r ≡ currentSize (shownCurrent k) ⌝ }
-{
-    match k {
-        Current::Nothing => 0,
-        Current::At(run) => run.size,
-    }
-}
-
-fn place_of(k: Current) -> u64
-    ensures { λ r. ⌜ r ≡ currentPlace (shownCurrent k) ⌝ }
-{
-    match k {
-        Current::Nothing => 0,
-        Current::At(run) => {
-            let p = run.place;
-            answers::position_of(p)
-        }
-    }
-}
-
+// One match for the three words of a current run: where there is none, nothing of it is looked at.
 fn pack(ws: &mut [u64], r: Reader)
     requires { ⌜ 16 ≤ length (now ws) ⌝ }
     ensures { λ _. ⌜ now (ws .exit) ≡ sets (now (ws .entry)) 0 (packed (seen r)) ⌝ }
 {
     let k = r.current;
-    let kind = kind_of(k);
-    let size = size_of(k);
-    let place = place_of(k);
-    four(ws, 0, r.cluster, r.cursor as u64, r.lcn, kind);
-    four(ws, 4, size, place, r.displacement, r.place);
-    four(ws, 8, r.size, 0, 0, 0);
-    four(ws, 12, 0, 0, 0, 0);
+    match k {
+        Current::Nothing => lay(ws, r, 0, 0, 0),
+        Current::At(run) => {
+            let p = run.place;
+            match p {
+                Place::Disk(at) => lay(ws, r, 1, run.size, at),
+                Place::Hole => lay(ws, r, 2, run.size, 0),
+            }
+        }
+    }
 }
 
 // The reader that an opening or a seek gives, into its words; a refusal leaves them.
@@ -125,7 +97,7 @@ pub(crate) fn keep(ws: &mut [u64], x: Sought) -> Told
 // The same for a read.
 pub(crate) fn keep_count(ws: &mut [u64], x: Outcome) -> Told
     requires { ⌜ 16 ≤ length (now ws) ⌝ }
-    ensures { λ r. ⌜ (shown r ≡ tellCount (shownOutcome x)) × (now (ws .exit) ≡ readerLeft (now (ws .entry)) (heldCount (shownOutcome x))) ⌝ }
+    ensures { λ r. ⌜ (shown r ≡ tellCount (shownOutcome x)) × (now (ws .exit) ≡ readerLeft (now (ws .entry)) (held (shownOutcome x))) ⌝ }
 {
     match x {
         Outcome::Given(g) => {

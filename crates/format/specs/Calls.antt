@@ -60,6 +60,14 @@ pub record Count : Type 0 where
 abbrev pub counted : ℕ → Answer Reading → Answer Count
 counted cluster x = then x (λ g. given (record { spans = length (g .spans); bytes = g .bytes; reader = record { cluster = cluster; reader = g .reader } }))
 
+-- The reader that a read gives; and what a call leaves of a reader that it was lent: the new one, or the old one where it is refused.
+abbrev pub held : Answer Count → Answer Held
+held x = then x (λ c. given (c .reader))
+
+abbrev pub leaves : Held → Answer Held → Held
+leaves old (given h) = h
+leaves old (refused k v) = old
+
 -- Three words a span: position (0 for a hole), length, kind (1 disk, 0 hole). Words past the spans keep their values.
 abbrev pub position : Place → ℕ
 position (disk p) = p

@@ -2,10 +2,10 @@
 use mathlib.Core.Path.{refl, ap, _∙_}
 use lib.Seq.{sets}
 use borrow.Author.Needs.{needs}
-use Rattle.format.specs.Calls.{Held, Count, reading, counted, stored}
+use Rattle.format.specs.Calls.{Held, Count, reading, counted, held, stored}
 use Rattle.format.specs.Listed.{Answer}
 use Rattle.format.specs.Pick.{yes-in, no-is}
-use Rattle.capi.specs.Words.{Told, tellCount, heldCount, readerLeft}
+use Rattle.capi.specs.Words.{Told, tellCount, readerLeft}
 use Rattle.capi.proofs.Fit.{reader-short, out-short, both-fit}
 use Rattle.capi.proofs.archthimble_read.Statement.{statement}
 use Rattle.capi.proofs.archthimble_read.Tie as tie
@@ -38,7 +38,7 @@ same-length-3 : tie.Need-same-length-3
 same-length-3 c = search needs
 
 returns-3 : tie.Need-returns-3
-returns-3 c = let a = c .before .before .before .before .before .before .before .before .before .before .before .before .before .before .before .before .before .before .before .before .args in let e = both-fit (a .reader .now) (a .out .now) (c .before .before .before .before .before .before .before .before .before .before .before .before .before .before .before .if1 .left) (c .before .before .before .before .before .before .before .before .before .before .before .before .before .before .if2 .left) in let q = c .before .before .before .before .before .before .before .before .before .before .read .ensures .0 ∙ ap (λ (h : Held). counted (h .cluster) (reading (a .list .now) h (a .w) (a .store .now))) (c .before .before .before .before .before .before .before .before .before .before .before .before .unpack .ensures) in let t = c .before .before .before .before .before .before .keep-count .ensures .0 ∙ ap tellCount q in (yes-in _ e (c .before .before .put .ensures .0 ∙ ap (λ (x : Told). x .number) t), yes-in _ e (c .before .before .put .ensures .1 ∙ ap (λ (x : Told). sets (a .out .now) 0 (x .words)) t), yes-in _ e (c .before .before .before .before .before .before .keep-count .ensures .1 ∙ ap (λ (x : Answer Count). readerLeft (a .reader .now) (heldCount x)) q), yes-in _ e (c .before .before .before .before .before .before .before .before .before .before .read .ensures .1 ∙ ap (λ (h : Held). stored (a .store .now) (reading (a .list .now) h (a .w) (a .store .now))) (c .before .before .before .before .before .before .before .before .before .before .before .before .unpack .ensures)))
+returns-3 c = let a = c .before .before .before .before .before .before .before .before .before .before .before .before .before .before .before .before .before .before .before .before .args in let e = both-fit (a .reader .now) (a .out .now) (c .before .before .before .before .before .before .before .before .before .before .before .before .before .before .before .if1 .left) (c .before .before .before .before .before .before .before .before .before .before .before .before .before .before .if2 .left) in let q = c .before .before .before .before .before .before .before .before .before .before .read .ensures .0 ∙ ap (λ (h : Held). counted (h .cluster) (reading (a .list .now) h (a .w) (a .store .now))) (c .before .before .before .before .before .before .before .before .before .before .before .before .unpack .ensures) in let t = c .before .before .before .before .before .before .keep-count .ensures .0 ∙ ap tellCount q in (yes-in _ e (c .before .before .put .ensures .0 ∙ ap (λ (x : Told). x .number) t), yes-in _ e (c .before .before .put .ensures .1 ∙ ap (λ (x : Told). sets (a .out .now) 0 (x .words)) t), yes-in _ e (c .before .before .before .before .before .before .keep-count .ensures .1 ∙ ap (λ (x : Answer Count). readerLeft (a .reader .now) (held x)) q), yes-in _ e (c .before .before .before .before .before .before .before .before .before .before .read .ensures .1 ∙ ap (λ (h : Held). stored (a .store .now) (reading (a .list .now) h (a .w) (a .store .now))) (c .before .before .before .before .before .before .before .before .before .before .before .before .unpack .ensures)))
 
 pub archthimble-read-spec : {M : Type 1} → statement M
 archthimble-read-spec =
