@@ -12,7 +12,7 @@ pub static SLIP: OnceLock<Slip> = OnceLock::new();
 const MARK: u64 = 0xa5a5_a5a5_a5a5_a5a5;
 
 /// How many values each refusal has, by its number.
-const VALUES: [usize; 23] = [0, 0, 2, 1, 1, 1, 0, 2, 1, 1, 0, 1, 3, 1, 1, 1, 1, 2, 1, 1, 0, 0, 0];
+pub const VALUES: [usize; 23] = [0, 0, 2, 1, 1, 1, 0, 2, 1, 1, 0, 1, 3, 1, 1, 1, 1, 2, 1, 1, 0, 0, 0];
 
 /// Makes a call with a marked `out` and reads its answer, of which the first `words` count. Words that must be 0 or kept and aren't are
 /// an answer that nothing else equals.
@@ -29,7 +29,7 @@ fn told(words: usize, call: impl FnOnce(*mut u64, usize) -> u64) -> Answer {
     }
 }
 
-fn slip() -> Slip {
+pub fn slip() -> Slip {
     SLIP.get().copied().unwrap_or(Slip::None)
 }
 
@@ -98,15 +98,9 @@ impl Reader {
         (opened.checked(if kept { answer } else { Answer::Refused(1000, vec![]) }), opened)
     }
 
-    /// After an accepted call the words that say nothing must be 0; if they aren't, the answer becomes one of no number.
+    /// An accepted call must leave a tidy reader; if it doesn't, the answer becomes one of no number.
     fn checked(&self, answer: Answer) -> Answer {
-        let w = &self.0;
-        let silent = match w[3] {
-            0 => w[4] == 0 && w[5] == 0,
-            1 => true,
-            kind => kind == 2 && w[5] == 0,
-        };
-        if answer.is_accepted() && !(silent && w[9..].iter().all(|w| *w == 0)) {
+        if answer.is_accepted() && !tidy(&self.0) {
             Answer::Refused(1000, vec![])
         } else {
             answer
@@ -136,13 +130,12 @@ impl Reader {
         });
         self.0[8] = size;
         let (count, bytes) = match &answer {
-            Answer::Accepted(words) => (words[0] as usize, words[1]),
+            Answer::Accepted(words) => (words[0], words[1]),
             _ => (0, 0),
         };
-        let spans: Option<Vec<Span>> = store.chunks_exact(3).take(count).map(span).collect();
-        let sum = spans.iter().flatten().map(|s| s.length as u128).sum::<u128>();
-        let kept = store.get(3 * count..).is_some_and(|rest| rest.iter().all(|w| *w == MARK));
-        if !kept || spans.is_none() || sum != bytes as u128 {
+        let spans = spans(&store, count, bytes);
+        let kept = spans.as_ref().is_some_and(|spans| store[3 * spans.len()..].iter().all(|w| *w == MARK));
+        if !kept {
             answer = Answer::Refused(1000, vec![]);
         }
         let answer = self.checked(answer);
@@ -163,6 +156,24 @@ impl Reader {
         };
         Stand { cursor: w[1], lcn: w[2], run, displacement: w[6], place: w[7], size: w[8] }
     }
+}
+
+/// Whether the words of a reader that say nothing are 0, as the library leaves them.
+pub fn tidy(w: &[u64; READER]) -> bool {
+    let silent = match w[3] {
+        0 => w[4] == 0 && w[5] == 0,
+        1 => true,
+        kind => kind == 2 && w[5] == 0,
+    };
+    silent && w[9..].iter().all(|w| *w == 0)
+}
+
+/// The first `count` spans of a store, or `None` where it hasn't room for them, one of them is none, or they aren't `bytes` long.
+pub fn spans(store: &[u64], count: u64, bytes: u64) -> Option<Vec<Span>> {
+    let words = usize::try_from(count).ok()?.checked_mul(3)?;
+    let spans: Vec<Span> = store.get(..words)?.chunks_exact(3).map(span).collect::<Option<_>>()?;
+    let sum: u128 = spans.iter().map(|s| s.length as u128).sum();
+    (sum == bytes as u128).then_some(spans)
 }
 
 /// A span of the store, or `None` where it is empty or its kind is none of the two.

@@ -1,6 +1,6 @@
 //! Counts, and what is printed of a failure.
 use std::collections::BTreeMap;
-use std::fmt::Debug;
+use std::fmt::{Debug, Display};
 
 use crate::answer::Side;
 use crate::domain::{verdict, Call, Left, Verdict};
@@ -10,6 +10,8 @@ pub struct Report {
     pub seed: u64,
     compared: u64,
     apart: BTreeMap<&'static str, u64>,
+    /// Calls that are compared with nothing, by what came of them.
+    called: BTreeMap<&'static str, u64>,
     failed: u64,
 }
 
@@ -19,7 +21,7 @@ pub type Outcome = Result<(), Failure>;
 
 impl Report {
     pub fn new(kind: &'static str, seed: u64) -> Self {
-        Report { kind, seed, compared: 0, apart: BTreeMap::new(), failed: 0 }
+        Report { kind, seed, compared: 0, apart: BTreeMap::new(), called: BTreeMap::new(), failed: 0 }
     }
 
     /// Judges one call; `input` is only asked for what to print.
@@ -46,9 +48,23 @@ impl Report {
         Failure
     }
 
-    pub fn line(&self) -> String {
-        let apart: Vec<String> = self.apart.iter().map(|(entry, n)| format!("{entry} {n}")).collect();
-        let apart = if apart.is_empty() { "none".into() } else { apart.join(", ") };
-        format!("{}: {} compared, excluded: {apart}; {} failed", self.kind, self.compared, self.failed)
+    pub fn called(&mut self, came: &'static str) {
+        *self.called.entry(came).or_default() += 1;
     }
+
+    pub fn line(&self) -> String {
+        let Report { kind, compared, failed, .. } = self;
+        if !self.called.is_empty() {
+            let calls: u64 = self.called.values().sum();
+            return format!("{kind}: {calls} called, {}; {failed} failed", listed(&self.called));
+        }
+        let apart = if self.apart.is_empty() { "none".into() } else { listed(&self.apart) };
+        format!("{kind}: {compared} compared, excluded: {apart}; {failed} failed")
+    }
+}
+
+/// Names with their counts.
+pub fn listed<N: Display>(counts: &BTreeMap<N, u64>) -> String {
+    let counts: Vec<String> = counts.iter().map(|(name, n)| format!("{name} {n}")).collect();
+    counts.join(", ")
 }

@@ -3,7 +3,7 @@ use std::borrow::Cow;
 
 use crate::answer::Answer;
 use crate::port::By;
-use crate::raw::READER;
+use crate::raw::{OUT, READER};
 
 #[derive(Clone, Copy, Debug, PartialEq)]
 pub enum Slip {
@@ -24,9 +24,13 @@ pub enum Slip {
     LookupInclusive,
     /// A seek to the place it is at rewinds, and so goes on to the next run at a run's end.
     SeekInPlace,
+    /// A refused call on a reader moves its place.
+    RefusedMoves,
+    /// The word behind the eighth of `out` is written.
+    NinthWord,
 }
 
-pub const ALL: [(&str, Slip); 8] = [
+pub const ALL: [(&str, Slip); 10] = [
     ("zero-extended", Slip::ZeroExtended),
     ("hole-resets", Slip::HoleResets),
     ("allocated-size", Slip::AllocatedSize),
@@ -35,6 +39,8 @@ pub const ALL: [(&str, Slip); 8] = [
     ("last-sector", Slip::LastSector),
     ("lookup-inclusive", Slip::LookupInclusive),
     ("seek-in-place", Slip::SeekInPlace),
+    ("refused-moves", Slip::RefusedMoves),
+    ("ninth-word", Slip::NinthWord),
 ];
 
 pub fn sector(slip: Slip, sector: &[u8]) -> Cow<'_, [u8]> {
@@ -114,4 +120,16 @@ pub fn before_read(slip: Slip, reader: &mut [u64; READER]) -> u64 {
         reader[8] = u64::MAX;
     }
     size
+}
+
+/// For the hostile calls, which don't come through port.rs.
+pub fn after_call(slip: Slip, number: u64, reader: &mut [u64], out: &mut [u64]) {
+    let written = match slip {
+        Slip::RefusedMoves if (1..=22).contains(&number) => reader.get_mut(7),
+        Slip::NinthWord => out.get_mut(OUT),
+        _ => None,
+    };
+    if let Some(word) = written {
+        *word = word.wrapping_add(1);
+    }
 }
