@@ -1,6 +1,7 @@
 -- NO SECOND OUTCOME: of each public call of the libraries, two outcomes that both keep its contract are the same. `Learnt` is the
 -- contract as the compiler has it; the arguments a are one and the same, and so is what was lent. By what is shown of an answer: each
--- contract is an equation with a definition, and what shows the answer is injective.
+-- contract is an equation with a definition, and what shows the answer is injective. The two calls of `in_place` are walked by hand and
+-- have no `Learnt`: their whole contract is a relation in that crate's `Promise`, and `seeks-once` and `reads-once` stand beside it.
 use Prim.Native.Nat.{ℕ}
 use mathlib.Core.Path.{_≡_, sym, _∙_}
 use mathlib.Core.List.{List}
