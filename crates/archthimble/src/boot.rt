@@ -48,30 +48,27 @@ fn show(sector: &[u8]) {
 }
 
 fn geometry(g: Geometry) {
-    table::row(b"sector size      ", g.sector_size, b" bytes\n");
-    table::row(b"cluster size     ", g.cluster_size, b" bytes\n");
-    table::row(b"total sectors    ", g.total_sectors, b" sectors\n");
-    cluster(b"MFT              ", g.mft_lcn, g.cluster_size);
-    cluster(b"MFT mirror       ", g.mirror_lcn, g.cluster_size);
-    table::row(b"file record size ", g.record_size, b" bytes\n");
-    info(g.index_info);
-    say(b"serial number        ");
+    table::row(b"sector size     ", g.sector_size, b" bytes\n");
+    table::row(b"cluster size    ", g.cluster_size, b" bytes\n");
+    table::row(b"total sectors   ", g.total_sectors, b" sectors, ");
+    volume(g.total_sectors, g.sector_size, g.cluster_size);
+    cluster(b"MFT             ", g.mft_lcn, g.cluster_size);
+    cluster(b"MFT mirror      ", g.mirror_lcn, g.cluster_size);
+    table::row(b"file record size", g.record_size, b" bytes\n");
+    say(b"index record info    ");
+    text::signed(Delta::of_byte(g.index_info));
+    say(b" (as it stands: clusters, or minus an exponent of bytes)\nserial number        ");
     io::print_hex(libc::STDOUT_FILENO, g.serial, 16);
     say(b" (hex)\n");
 }
 
-// A number that an exponent may stand behind is shown as it stands.
-fn info(index_info: i8) {
-    say(b"index record info");
-    match Delta::of_byte(index_info) {
-        Delta::Up(n) => table::aligned(n),
-        Delta::Down(n) => {
-            if n < 128 {
-                table::below(n + 1);
-            }
-        }
+// The volume's size in bytes and in clusters.
+fn volume(sectors: u64, size: u64, cluster: u64) {
+    match types::times(sectors, size) {
+        Word::Is(bytes) => table::clusters(bytes, cluster),
+        Word::Out => say(b"past 2^64 - 1 bytes"),
     }
-    say(b" (as it stands: clusters, or minus an exponent of bytes)\n");
+    say(b"\n");
 }
 
 // An LCN, and where its first byte lies.

@@ -13,52 +13,43 @@ use text::say;
 
 fn usage() {
     say(
-        b"archthimble                  reads a stretch of a stream that is built in
-archthimble boot [FILE]      the geometry of a boot sector, or of a disk image's first 512 bytes
-archthimble record FILE      repairs a copy of a file record or index record, and says what was found
-archthimble runs LIST SIZE   the runs of a list in hex, as '11 02 0A 00', at a cluster size in bytes
+        b"archthimble shows what the parts of an NTFS disk say, by a proved library. It changes no file.
+
+archthimble                    a stretch of a stream, read from a run list that is built in
+
+archthimble boot [FILE]        the geometry in a boot sector, or in a disk image's first 512 bytes;
+                               without a file, in a sector that is built in
+    archthimble boot disk.img
+
+archthimble record FILE        a file record or index record of 8 to 4096 bytes: repairs a copy,
+                               and says what was found and which bytes changed
+    archthimble record record.bin
+
+archthimble runs LIST CLUSTER  the runs of a list in hex, at a cluster size in bytes
+    archthimble runs '11 02 0A 11 01 FE 01 03 11 02 05 00' 512
+
 archthimble spans LIST CLUSTER SIZE OFFSET LENGTH
-                             where LENGTH bytes from OFFSET on lie, in a stream of SIZE bytes
-archthimble help             this
+                               where LENGTH bytes from OFFSET on lie, in a stream of SIZE bytes
+    archthimble spans '11 02 0A 11 01 FE 01 03 11 02 05 00' 512 4000 900 1000
+
+archthimble help               this
+
+A bar shows the stream from left to right: # lies on the disk, . in a hole, a blank is not covered.
+Behind an = sign a size is in clusters, and a place is in a cluster: 1000 bytes = 1 x 512 + 488.
+What is refused is named by its number and a sentence. Numbers are decimal, from 0 to 2^64 - 1.
 ",
     );
 }
 
-fn unknown(word: &[u8]) {
-    say(b"archthimble does not know '");
-    say(word);
-    say(b"'. Type one of:\n");
-    usage();
-}
-
-// Whether there is just one word after the command; otherwise it says what to type.
-fn one_file(words: usize) -> bool {
-    if words == 3 {
+// Whether so many words were typed; otherwise it says what to type.
+fn takes(words: usize, n: usize, example: &[u8]) -> bool {
+    if words == n {
         return true;
     }
-    say(b"That takes one file. Type one of:\n");
-    usage();
+    say(b"That takes other words. For example: archthimble ");
+    say(example);
+    say(b"\n'archthimble help' says what they mean.\n");
     false
-}
-
-fn runs_of(words: usize) {
-    if words == 4 {
-        runs::typed();
-        return;
-    }
-    say(
-        b"That takes a list in hex and a cluster size, as in: archthimble runs '11 02 0A 00' 512\n",
-    );
-}
-
-fn spans_of(words: usize) {
-    if words == 7 {
-        spans::typed();
-        return;
-    }
-    say(
-        b"That takes a list in hex and four numbers, as in: archthimble spans '11 02 0A 00' 512 1000 0 1000\n",
-    );
 }
 
 fn command(word: &[u8], words: usize) {
@@ -67,30 +58,39 @@ fn command(word: &[u8], words: usize) {
             boot::sample();
             return;
         }
-        if one_file(words) {
+        if takes(words, 3, b"boot disk.img") {
             boot::file();
         }
         return;
     }
     if check::same(word, b"record") {
-        if one_file(words) {
+        if takes(words, 3, b"record record.bin") {
             records::file();
         }
         return;
     }
     if check::same(word, b"runs") {
-        runs_of(words);
+        if takes(words, 4, b"runs '11 02 0A 00' 512") {
+            runs::typed();
+        }
         return;
     }
     if check::same(word, b"spans") {
-        spans_of(words);
+        if takes(words, 7, b"spans '11 02 0A 00' 512 1000 0 1000") {
+            spans::typed();
+        }
         return;
     }
-    if check::same(word, b"help") {
-        usage();
-        return;
+    other(word);
+}
+
+fn other(word: &[u8]) {
+    if !check::same(word, b"help") {
+        say(b"archthimble does not know '");
+        say(word);
+        say(b"'. This is what there is:\n\n");
     }
-    unknown(word);
+    usage();
 }
 
 fn main() {

@@ -38,9 +38,9 @@ fn show(lent: &mut [u8], before: &[u8; 4097]) {
 }
 
 fn fields(lent: &[u8]) {
-    table::row(b"record           ", lent.len() as u64, b" bytes\n");
-    table::row(b"sequence offset  ", types::number_at(lent, 4, 2), b"\n");
-    table::row(b"sequence count   ", types::number_at(lent, 6, 2), b"\n");
+    table::row(b"record          ", lent.len() as u64, b" bytes\n");
+    table::row(b"sequence offset ", types::number_at(lent, 4, 2), b"\n");
+    table::row(b"sequence count  ", types::number_at(lent, 6, 2), b"\n");
 }
 
 // Each byte that the repair changed.
@@ -57,7 +57,7 @@ fn ends(after: &[u8], before: &[u8; 4097]) {
 }
 
 fn changed(at: usize, from: u8, to: u8) {
-    table::row(b"byte             ", at as u64, b" was ");
+    table::row(b"byte            ", at as u64, b" was ");
     io::print_hex(libc::STDOUT_FILENO, types::wide(from), 2);
     say(b", is ");
     io::print_hex(libc::STDOUT_FILENO, types::wide(to), 2);

@@ -36,7 +36,7 @@ fn part(list: &[u8], n: usize, cluster: u64) {
 }
 
 fn show(list: &[u8], cluster: u64) {
-    say(b"              header                size  place\n");
+    say(b"            header at                bytes             clusters  place\n");
     let mut w = Walk {
         at: 0,
         lcn: 0,
@@ -60,7 +60,10 @@ fn onward(w: Walk, list: &[u8], cluster: u64) -> Walk {
         lcn: w.lcn,
     };
     match c.next(list, cluster) {
-        Decoded::Run(run, next) => passed(w, run, next),
+        Decoded::Run(run, next) => {
+            line(w.at, run, cluster);
+            passed(w, run.size, next)
+        }
         Decoded::Over => stopped(w),
         Decoded::Refused(x) => {
             names::explain(x);
@@ -78,10 +81,8 @@ fn stopped(w: Walk) -> Walk {
     }
 }
 
-// A run that was found: its line, and the walk behind it. A total that doesn't fit 64 bits stays as it is.
-fn passed(w: Walk, run: Run, next: Cursor) -> Walk {
-    let size = run.size;
-    line(w.at, run);
+// Behind a run. A total that doesn't fit 64 bits stays as it is, and the bar ends there.
+fn passed(w: Walk, size: u64, next: Cursor) -> Walk {
     let total = w.total;
     if total <= 0xffff_ffff_ffff_ffff - size {
         return Walk {
@@ -91,6 +92,7 @@ fn passed(w: Walk, run: Run, next: Cursor) -> Walk {
             more: true,
         };
     }
+    say(b"The runs so far cover more than 2^64 - 1 bytes; the bar leaves this one out.\n");
     Walk {
         at: next.at,
         lcn: next.lcn,
@@ -99,24 +101,18 @@ fn passed(w: Walk, run: Run, next: Cursor) -> Walk {
     }
 }
 
-fn line(at: usize, run: Run) {
+// Every size of a run is a whole number of clusters.
+fn line(at: usize, run: Run, cluster: u64) {
     table::aligned(at as u64);
     table::aligned(run.size);
+    if 0 < cluster {
+        table::aligned(run.size / cluster);
+    }
     let p = run.place;
     match p {
-        Place::Disk(place) => on_disk(place),
-        Place::Hole => in_hole(),
+        Place::Disk(place) => table::on_disk(place, cluster),
+        Place::Hole => say(b"  hole\n"),
     }
-}
-
-pub fn on_disk(place: u64) {
-    say(b"  byte ");
-    text::number(place);
-    say(b"\n");
-}
-
-pub fn in_hole() {
-    say(b"  hole\n");
 }
 
 // Where a mark of the bar stands: a place in the stream, and sixtieths of a byte.
@@ -141,6 +137,7 @@ fn onto(m: Spot, total: u64) -> Spot {
 // Sixty marks from one place in the stream to another: # lies on the disk, . in a hole.
 pub fn bar(list: &[u8], cluster: u64, from: u64, to: u64) {
     if to <= from {
+        say(b"0 bytes\n");
         return;
     }
     let total = to - from;
@@ -156,8 +153,8 @@ pub fn bar(list: &[u8], cluster: u64, from: u64, to: u64) {
         left = left - 1;
     }
     say(b"] ");
-    text::number(total);
-    say(b" bytes; # on the disk, . in a hole\n");
+    table::clusters(total, cluster);
+    say(b"; # on the disk, . in a hole\n");
 }
 
 fn mark(list: &[u8], cluster: u64, offset: u64) {

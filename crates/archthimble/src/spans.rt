@@ -66,7 +66,7 @@ fn show(list: &[u8], cluster: u64, size: u64, offset: u64, length: u64) {
 
 // Reads on until nothing more comes: no list has more runs than bytes.
 fn read(list: &[u8], r: Reader, length: u64) {
-    say(b"              offset              length  place\n");
+    say(b"               offset                bytes  place\n");
     let mut w = Walk {
         reader: r,
         wanted: length,
@@ -93,7 +93,7 @@ fn given(w: Walk, list: &[u8], store: &mut [u64]) -> Walk {
     let r = w.reader;
     match r.read(list, w.wanted, store) {
         Outcome::Given(g) => {
-            lines(store, g.spans, r.place);
+            lines(store, g.spans, r.place, r.cluster);
             let to = g.reader;
             Walk {
                 reader: to,
@@ -112,24 +112,24 @@ fn given(w: Walk, list: &[u8], store: &mut [u64]) -> Walk {
     }
 }
 
-fn lines(store: &[u64], spans: usize, from: u64) {
+fn lines(store: &[u64], spans: usize, from: u64, cluster: u64) {
     let mut k: usize = 0;
     let mut offset = from;
     while k < store.len() / 3 {
         if k < spans {
             table::aligned(offset);
-            line(store[3 * k], store[3 * k + 1], store[3 * k + 2]);
+            table::aligned(store[3 * k + 1]);
+            place(store[3 * k], store[3 * k + 2], cluster);
             offset = std::num::wrapping_add_u64(offset, store[3 * k + 1]);
         }
         k = k + 1;
     }
 }
 
-fn line(position: u64, length: u64, kind: u64) {
-    table::aligned(length);
+fn place(position: u64, kind: u64, cluster: u64) {
     if kind == 1 {
-        runs::on_disk(position);
+        table::on_disk(position, cluster);
         return;
     }
-    runs::in_hole();
+    say(b"  hole\n");
 }

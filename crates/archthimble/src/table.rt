@@ -1,8 +1,9 @@
-// Numbers that line up in a column.
+// Numbers that line up in a column, and sizes and places in bytes and in clusters.
 use crate::text;
+use text::number;
 use text::say;
 
-// A number at the right of 20 places, and one less than 0.
+// A number at the right of 21 places, one more than the longest has.
 pub fn aligned(n: u64) {
     let mut digits = [0u8; 20];
     let k = io::decimal(n, &mut digits);
@@ -10,20 +11,10 @@ pub fn aligned(n: u64) {
     say(&digits[..k]);
 }
 
-pub fn below(n: u64) {
-    let mut digits = [0u8; 20];
-    let k = io::decimal(n, &mut digits);
-    if k < 20 {
-        blanks(k + 1);
-    }
-    say(b"-");
-    say(&digits[..k]);
-}
-
 fn blanks(used: usize) {
-    let blank: &[u8] = b"                    ";
-    if used <= 20 {
-        let n = 20 - used;
+    let blank: &[u8] = b"                     ";
+    if used <= 21 {
+        let n = 21 - used;
         say(&blank[..n]);
     }
 }
@@ -33,4 +24,32 @@ pub fn row(name: &[u8], n: u64, unit: &[u8]) {
     say(name);
     aligned(n);
     say(unit);
+}
+
+// So many bytes as clusters and the bytes over them.
+pub fn clusters(bytes: u64, cluster: u64) {
+    if cluster == 0 {
+        return;
+    }
+    number(bytes);
+    say(b" bytes = ");
+    number(bytes / cluster);
+    say(b" x ");
+    number(cluster);
+    say(b" + ");
+    number(bytes % cluster);
+}
+
+// A byte of the disk, and how far in which cluster it lies.
+pub fn on_disk(position: u64, cluster: u64) {
+    if cluster == 0 {
+        return;
+    }
+    say(b"  byte ");
+    number(position);
+    say(b" = LCN ");
+    number(position / cluster);
+    say(b" + ");
+    number(position % cluster);
+    say(b"\n");
 }

@@ -118,7 +118,7 @@ pub fn list(out: &mut [u8]) -> Bytes {
     let mut text = io::buffer();
     let n = os::arg(2, &mut text);
     if os::errno() != 0 {
-        os::fail(b"the list");
+        say(b"The list is too long: as it is typed it may have 4096 characters.\n");
         return Bytes {
             n: 0,
             high: 16,
@@ -127,7 +127,7 @@ pub fn list(out: &mut [u8]) -> Bytes {
     }
     let got = hex(&text[..n], out);
     if !got.good {
-        say(b"The list must be bytes in hex, as in: '11 02 0A 00'\n");
+        say(b"The list must be whole bytes in hex, as in: '11 02 0A 00'\n");
     }
     got
 }

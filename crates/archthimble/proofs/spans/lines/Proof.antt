@@ -1,15 +1,15 @@
 -- The spans left in the store are counted down; three words a span stay inside it.
+use borrow.Author.Needs.{needs}
 use Prim.Native.Nat.{_-_}
 use lib.ListN.{length}
-use borrow.Author.Needs.{needs}
 use Rattle.archthimble.proofs.spans.lines.Statement.{statement}
 use Rattle.archthimble.proofs.spans.lines.Tie as tie
 
 abbrev Inv-loop : tie.InvT-loop
-Inv-loop store spans from k₀ offset₀ k offset = Unit {0}
+Inv-loop store spans from cluster k₀ offset₀ k offset = Unit {0}
 
 abbrev μ-loop : tie.MeasureT-loop
-μ-loop store spans from k₀ offset₀ k offset = length store - k
+μ-loop store spans from cluster k₀ offset₀ k offset = length store - k
 
 loop-holds : tie.Need-loop-holds Inv-loop μ-loop
 loop-holds c = search needs
@@ -17,41 +17,44 @@ loop-holds c = search needs
 aligned-requires : tie.Need-aligned-requires Inv-loop μ-loop
 aligned-requires c κs = search needs
 
-mul-line : tie.Need-mul-line Inv-loop μ-loop
-mul-line c = search needs
+mul-aligned : tie.Need-mul-aligned Inv-loop μ-loop
+mul-aligned c = search needs
 
-mul-line-2 : tie.Need-mul-line-2 Inv-loop μ-loop
-mul-line-2 c = search needs
+add-aligned : tie.Need-add-aligned Inv-loop μ-loop
+add-aligned c = search needs
 
-shared-slice-read-line : tie.Need-shared-slice-read-line Inv-loop μ-loop
-shared-slice-read-line c = search needs
+mul-aligned-2 : tie.Need-mul-aligned-2 Inv-loop μ-loop
+mul-aligned-2 c = search needs
 
-mul-line-3 : tie.Need-mul-line-3 Inv-loop μ-loop
-mul-line-3 c = search needs
+shared-slice-read-aligned : tie.Need-shared-slice-read-aligned Inv-loop μ-loop
+shared-slice-read-aligned c = search needs
 
-add-line : tie.Need-add-line Inv-loop μ-loop
-add-line c = search needs
+aligned-requires-2 : tie.Need-aligned-requires-2 Inv-loop μ-loop
+aligned-requires-2 c κs = search needs
 
-mul-line-4 : tie.Need-mul-line-4 Inv-loop μ-loop
-mul-line-4 c = search needs
+mul-place : tie.Need-mul-place Inv-loop μ-loop
+mul-place c = search needs
 
-shared-slice-read-line-2 : tie.Need-shared-slice-read-line-2 Inv-loop μ-loop
-shared-slice-read-line-2 c = search needs
+mul-place-2 : tie.Need-mul-place-2 Inv-loop μ-loop
+mul-place-2 c = search needs
 
-mul-line-5 : tie.Need-mul-line-5 Inv-loop μ-loop
-mul-line-5 c = search needs
+shared-slice-read-place : tie.Need-shared-slice-read-place Inv-loop μ-loop
+shared-slice-read-place c = search needs
 
-add-line-2 : tie.Need-add-line-2 Inv-loop μ-loop
-add-line-2 c = search needs
+mul-place-3 : tie.Need-mul-place-3 Inv-loop μ-loop
+mul-place-3 c = search needs
 
-mul-line-6 : tie.Need-mul-line-6 Inv-loop μ-loop
-mul-line-6 c = search needs
+add-place : tie.Need-add-place Inv-loop μ-loop
+add-place c = search needs
 
-shared-slice-read-line-3 : tie.Need-shared-slice-read-line-3 Inv-loop μ-loop
-shared-slice-read-line-3 c = search needs
+mul-place-4 : tie.Need-mul-place-4 Inv-loop μ-loop
+mul-place-4 c = search needs
 
-line-requires : tie.Need-line-requires Inv-loop μ-loop
-line-requires c κs = search needs
+shared-slice-read-place-2 : tie.Need-shared-slice-read-place-2 Inv-loop μ-loop
+shared-slice-read-place-2 c = search needs
+
+place-requires : tie.Need-place-requires Inv-loop μ-loop
+place-requires c κs = search needs
 
 mul-wrapping-add-u64 : tie.Need-mul-wrapping-add-u64 Inv-loop μ-loop
 mul-wrapping-add-u64 c = search needs
@@ -88,18 +91,19 @@ lines-spec =
     μ-loop
     loop-holds
     aligned-requires
-    mul-line
-    mul-line-2
-    shared-slice-read-line
-    mul-line-3
-    add-line
-    mul-line-4
-    shared-slice-read-line-2
-    mul-line-5
-    add-line-2
-    mul-line-6
-    shared-slice-read-line-3
-    line-requires
+    mul-aligned
+    add-aligned
+    mul-aligned-2
+    shared-slice-read-aligned
+    aligned-requires-2
+    mul-place
+    mul-place-2
+    shared-slice-read-place
+    mul-place-3
+    add-place
+    mul-place-4
+    shared-slice-read-place-2
+    place-requires
     mul-wrapping-add-u64
     add-wrapping-add-u64
     mul-wrapping-add-u64-2
