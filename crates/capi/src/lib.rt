@@ -7,7 +7,9 @@ use boot_sector::Geometry;
 use data_runs::Cursor;
 use non_resident::By;
 use non_resident::Reader;
+use stores::OUT;
 use stores::SHORT;
+use stores::both_fit;
 use stores::put;
 use stores::tell;
 use types::Lcn;
@@ -75,7 +77,7 @@ pub extern "C" fn archthimble_lookup(list: &[u8], cluster: u64, offset: u64, out
 pub extern "C" fn archthimble_repair(lent: &mut [u8], out: &mut [u64]) -> u64
     ensures { λ r. ⌜ (r ≡ answered (fits (now (out .entry))) (tellRepair (repair (now (lent .entry))))) × (now (out .exit) ≡ written (fits (now (out .entry))) (now (out .entry)) (tellRepair (repair (now (lent .entry))))) × (now (lent .exit) ≡ pick (fits (now (out .entry))) (recordLeft (repair (now (lent .entry)))) (now (lent .entry))) ⌝ }
 {
-    if out.len() < 8 {
+    if out.len() < OUT {
         return SHORT;
     }
     let t = answers::repaired(record::repair(lent));
@@ -92,10 +94,7 @@ pub extern "C" fn archthimble_open(
 ) -> u64
     ensures { λ r. ⌜ (r ≡ answered (bothFit (now (reader .entry)) (now (out .entry))) (tellHeld (opening cluster (now (list .entry)) size))) × (now (out .exit) ≡ written (bothFit (now (reader .entry)) (now (out .entry))) (now (out .entry)) (tellHeld (opening cluster (now (list .entry)) size))) × (now (reader .exit) ≡ pick (bothFit (now (reader .entry)) (now (out .entry))) (readerLeft (now (reader .entry)) (opening cluster (now (list .entry)) size)) (now (reader .entry))) ⌝ }
 {
-    if reader.len() < 16 {
-        return SHORT;
-    }
-    if out.len() < 8 {
+    if !both_fit(reader, out) {
         return SHORT;
     }
     let t = reader::keep(reader, Reader::open(list, cluster, size));
@@ -112,10 +111,7 @@ pub extern "C" fn archthimble_seek(
 ) -> u64
     ensures { λ r. ⌜ (r ≡ answered (bothFit (now (reader .entry)) (now (out .entry))) (tellHeld (seeking (now (list .entry)) (heldOf (now (reader .entry))) (fromOf from) (pos by)))) × (now (out .exit) ≡ written (bothFit (now (reader .entry)) (now (out .entry))) (now (out .entry)) (tellHeld (seeking (now (list .entry)) (heldOf (now (reader .entry))) (fromOf from) (pos by)))) × (now (reader .exit) ≡ pick (bothFit (now (reader .entry)) (now (out .entry))) (readerLeft (now (reader .entry)) (seeking (now (list .entry)) (heldOf (now (reader .entry))) (fromOf from) (pos by))) (now (reader .entry))) ⌝ }
 {
-    if reader.len() < 16 {
-        return SHORT;
-    }
-    if out.len() < 8 {
+    if !both_fit(reader, out) {
         return SHORT;
     }
     let r = reader::unpack(reader);
@@ -134,10 +130,7 @@ pub extern "C" fn archthimble_seek_signed(
 ) -> u64
     ensures { λ r. ⌜ (r ≡ answered (bothFit (now (reader .entry)) (now (out .entry))) (tellHeld (seeking (now (list .entry)) (heldOf (now (reader .entry))) (fromOf from) by))) × (now (out .exit) ≡ written (bothFit (now (reader .entry)) (now (out .entry))) (now (out .entry)) (tellHeld (seeking (now (list .entry)) (heldOf (now (reader .entry))) (fromOf from) by))) × (now (reader .exit) ≡ pick (bothFit (now (reader .entry)) (now (out .entry))) (readerLeft (now (reader .entry)) (seeking (now (list .entry)) (heldOf (now (reader .entry))) (fromOf from) by)) (now (reader .entry))) ⌝ }
 {
-    if reader.len() < 16 {
-        return SHORT;
-    }
-    if out.len() < 8 {
+    if !both_fit(reader, out) {
         return SHORT;
     }
     let r = reader::unpack(reader);
@@ -156,10 +149,7 @@ pub extern "C" fn archthimble_read(
 ) -> u64
     ensures { λ r. ⌜ (r ≡ answered (bothFit (now (reader .entry)) (now (out .entry))) (tellCount (counted (heldOf (now (reader .entry)) .cluster) (reading (now (list .entry)) (heldOf (now (reader .entry))) w (now (store .entry)))))) × (now (out .exit) ≡ written (bothFit (now (reader .entry)) (now (out .entry))) (now (out .entry)) (tellCount (counted (heldOf (now (reader .entry)) .cluster) (reading (now (list .entry)) (heldOf (now (reader .entry))) w (now (store .entry)))))) × (now (reader .exit) ≡ pick (bothFit (now (reader .entry)) (now (out .entry))) (readerLeft (now (reader .entry)) (held (counted (heldOf (now (reader .entry)) .cluster) (reading (now (list .entry)) (heldOf (now (reader .entry))) w (now (store .entry)))))) (now (reader .entry))) × (now (store .exit) ≡ pick (bothFit (now (reader .entry)) (now (out .entry))) (stored (now (store .entry)) (reading (now (list .entry)) (heldOf (now (reader .entry))) w (now (store .entry)))) (now (store .entry))) ⌝ }
 {
-    if reader.len() < 16 {
-        return SHORT;
-    }
-    if out.len() < 8 {
+    if !both_fit(reader, out) {
         return SHORT;
     }
     let r = reader::unpack(reader);
@@ -172,10 +162,7 @@ pub extern "C" fn archthimble_read(
 pub extern "C" fn archthimble_data_position(reader: &[u64], out: &mut [u64]) -> u64
     ensures { λ r. ⌜ (r ≡ answered (bothFit (now (reader .entry)) (now (out .entry))) (tellPosition (standing (heldOf (now (reader .entry)))))) × (now (out .exit) ≡ written (bothFit (now (reader .entry)) (now (out .entry))) (now (out .entry)) (tellPosition (standing (heldOf (now (reader .entry)))))) ⌝ }
 {
-    if reader.len() < 16 {
-        return SHORT;
-    }
-    if out.len() < 8 {
+    if !both_fit(reader, out) {
         return SHORT;
     }
     let r = reader::unpack(reader);
