@@ -32,7 +32,7 @@ pub fn file() {
 fn from(fd: i32) {
     let mut sector = [0u8; 512];
     let got = io::read_full(fd, &mut sector);
-    if got == 0 {
+    if got < 512 {
         if files::failed() {
             return;
         }

@@ -34,9 +34,10 @@ archthimble spans LIST CLUSTER SIZE OFFSET LENGTH
 
 archthimble help               this
 
-A bar shows the stream from left to right: # lies on the disk, . in a hole, a blank is not covered.
+A bar shows the stream from left to right: # lies on the disk, . in a hole.
 Behind an = sign a size is in clusters, and a place is in a cluster: 1000 bytes = 1 x 512 + 488.
-What is refused is named by its number and a sentence. Numbers are decimal, from 0 to 2^64 - 1.
+What is refused is named by its number and a sentence; the exit status is 0 all the same, so read
+the words. Numbers are decimal, from 0 to 2^64 - 1.
 ",
     );
 }
@@ -84,8 +85,15 @@ fn command(word: &[u8], words: usize) {
     other(word);
 }
 
+fn asks_help(word: &[u8]) -> bool {
+    if check::same(word, b"--help") {
+        return true;
+    }
+    check::same(word, b"help")
+}
+
 fn other(word: &[u8]) {
-    if !check::same(word, b"help") {
+    if !asks_help(word) {
         say(b"archthimble does not know '");
         say(word);
         say(b"'. This is what there is:\n\n");

@@ -19,7 +19,7 @@ pub fn file() {
 fn from(fd: i32) {
     let mut lent = [0u8; 4097];
     let got = io::read_full(fd, &mut lent);
-    if got == 0 {
+    if got < 4097 {
         if files::failed() {
             return;
         }
@@ -31,14 +31,23 @@ fn from(fd: i32) {
 fn show(lent: &mut [u8], before: &[u8; 4097]) {
     fields(lent);
     match record::repair(lent) {
-        Repaired::Done => say(b"repaired: the sequence number stood at the end of each sector\n"),
+        Repaired::Done => say(
+            b"repaired: each sector that the count covers ended in the sequence number\n",
+        ),
         Repaired::Refused(x) => names::explain(x),
     }
     ends(lent, before);
 }
 
 fn fields(lent: &[u8]) {
+    if 4096 < lent.len() {
+        say(b"record                 over 4096 bytes\n");
+        return;
+    }
     table::row(b"record          ", lent.len() as u64, b" bytes\n");
+    if lent.len() < 8 {
+        return;
+    }
     table::row(b"sequence offset ", types::number_at(lent, 4, 2), b"\n");
     table::row(b"sequence count  ", types::number_at(lent, 6, 2), b"\n");
 }

@@ -81,7 +81,7 @@ fn stopped(w: Walk) -> Walk {
     }
 }
 
-// Behind a run. A total that doesn't fit 64 bits stays as it is, and the bar ends there.
+// Behind a run. Where the total doesn't fit 64 bits, the walk ends.
 fn passed(w: Walk, size: u64, next: Cursor) -> Walk {
     let total = w.total;
     if total <= 0xffff_ffff_ffff_ffff - size {
@@ -92,13 +92,10 @@ fn passed(w: Walk, size: u64, next: Cursor) -> Walk {
             more: true,
         };
     }
-    say(b"The runs so far cover more than 2^64 - 1 bytes; the bar leaves this one out.\n");
-    Walk {
-        at: next.at,
-        lcn: next.lcn,
-        total,
-        more: true,
-    }
+    say(
+        b"With this run they cover more than 2^64 - 1 bytes: it ends here, and the bar before it.\n",
+    );
+    stopped(w)
 }
 
 // Every size of a run is a whole number of clusters.

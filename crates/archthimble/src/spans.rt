@@ -79,6 +79,14 @@ fn read(list: &[u8], r: Reader, length: u64) {
     }
     let end = w.reader;
     runs::bar(list, r.cluster, r.place, end.place);
+    missing(w.wanted);
+}
+
+fn missing(bytes: u64) {
+    if 0 < bytes {
+        text::number(bytes);
+        say(b" bytes more were asked for, but the runs or the data end here.\n");
+    }
 }
 
 fn onward(w: Walk, list: &[u8]) -> Walk {

@@ -42,9 +42,14 @@ fn bad(s: Bytes) -> Bytes {
     }
 }
 
+// A blank stands between bytes, not inside one.
+fn between(s: Bytes) -> Bytes {
+    if s.high == 16 { s } else { bad(s) }
+}
+
 fn take(s: Bytes, b: u8, out: &mut [u8]) -> Bytes {
     if b == b' ' {
-        return s;
+        return between(s);
     }
     let d = digit(b);
     if 15 < d {
@@ -82,7 +87,7 @@ pub fn hex(text: &[u8], out: &mut [u8]) -> Bytes {
         s = take(s, text[i], out);
         i = i + 1;
     }
-    if s.high == 16 { s } else { bad(s) }
+    between(s)
 }
 
 fn place(x: Number, b: u8) -> Number {

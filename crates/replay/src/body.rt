@@ -52,11 +52,11 @@ pub fn answer(body: &[u8], at: usize, number: u64, words: &[u64], n: usize) -> u
     same(body, on(body, at, 8), words, n)
 }
 
-pub fn byte(body: &[u8], i: usize) -> u8 {
+fn byte(body: &[u8], i: usize) -> u8 {
     if i < body.len() { body[i] } else { 0 }
 }
 
-pub fn put(out: &mut [u8], i: usize, b: u8) {
+fn put(out: &mut [u8], i: usize, b: u8) {
     if i < out.len() {
         out[i] = b;
     }
@@ -83,6 +83,9 @@ pub fn bytes(body: &[u8], at: usize, out: &mut [u8], to: usize) -> usize {
 
 // Bytes that are zeros but for some pieces; `out` holds zeros before.
 pub fn sparse(body: &[u8], at: usize, out: &mut [u8]) -> usize {
+    if (out.len() as u64) < word(body, at) {
+        return LOST;
+    }
     let pieces = word(body, on(body, at, 8));
     let mut p = on(body, at, 16);
     let mut i = 0;

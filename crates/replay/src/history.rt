@@ -14,6 +14,8 @@ const OPEN: u64 = 0;
 const SEEK: u64 = 1;
 
 const SEEK_SIGNED: u64 = 2;
+
+const READ: u64 = 3;
 // what a call with too short a store answers
 const SHORT: u64 = 255;
 
@@ -27,6 +29,9 @@ pub fn history(entry: &[u8]) -> usize {
 
 fn calls(entry: &[u8], at: usize, list: &[u8], reader: &mut [u64]) -> usize {
     let count = word(entry, at);
+    if count == 0 {
+        return LOST;
+    }
     let mut p = on(entry, at, 8);
     let mut i = 0;
     while i < count {
@@ -95,7 +100,10 @@ fn make(
     if what == SEEK_SIGNED {
         return capi::archthimble_seek_signed(list, reader, a, signed(b), out);
     }
-    read(list, reader, a, store, b as usize, out)
+    if what == READ {
+        return read(list, reader, a, store, b as usize, out);
+    }
+    SHORT
 }
 
 // A read with a store of so many words.

@@ -2,11 +2,9 @@
 use crate::body;
 use body::LOST;
 use body::answer;
-use body::byte;
 use body::bytes;
 use body::most;
 use body::on;
-use body::put;
 use body::sparse;
 use body::word;
 
@@ -43,15 +41,23 @@ fn changes(entry: &[u8], at: usize, wanted: &mut [u8]) -> usize {
         if p == LOST {
             return LOST;
         }
-        put(
-            wanted,
-            word(entry, p) as usize,
-            byte(entry, on(entry, p, 8)),
-        );
-        p = on(entry, p, 16);
+        p = change(entry, p, wanted);
         i = i + 1;
     }
     p
+}
+
+fn change(entry: &[u8], at: usize, wanted: &mut [u8]) -> usize {
+    let index = word(entry, at) as usize;
+    let b = word(entry, on(entry, at, 8));
+    if 255 < b {
+        return LOST;
+    }
+    if wanted.len() <= index {
+        return LOST;
+    }
+    wanted[index] = b as u8;
+    on(entry, at, 16)
 }
 
 pub fn run(entry: &[u8]) -> usize {

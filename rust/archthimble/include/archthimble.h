@@ -3,8 +3,9 @@
  * definitions in crates/format/specs say. What is lent to one call must not overlap, and words must stand where a uint64_t may.
  *
  * Each call answers a number: 0 accepted, otherwise the refusal's number (1 to 22, those that its comment names); 255 where `out` or
- * `reader` is too short, and then nothing was changed. `out` must have ARCHTHIMBLE_OUT words or more. Accepted, it holds what the call's comment says, the rest of the eight words 0;
- * refused, the refusal's values in the order of the table in README.md (a negative one in two's complement), the rest of the eight 0.
+ * `reader` is too short, and then nothing was changed. `out` must have ARCHTHIMBLE_OUT words or more. Accepted, it holds what the call's
+ * comment says, the rest of the eight words 0; refused, the refusal's values in the order of the table in README.md (a negative one in
+ * two's complement), the rest of the eight 0.
  * Words behind the eighth keep their values.
  *
  * A reader is ARCHTHIMBLE_READER words or more: cluster size, cursor, previous LCN, current run (0 none, 1 on the disk, 2 a hole), that

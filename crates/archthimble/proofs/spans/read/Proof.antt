@@ -1,6 +1,7 @@
 -- The turns are counted down.
-use lib.ListN.{length}
 use borrow.Author.Needs.{needs}
+use Prim.Native.Nat.{_-_}
+use lib.ListN.{length}
 use Rattle.archthimble.proofs.spans.read.Statement.{statement}
 use Rattle.archthimble.proofs.spans.read.Tie as tie
 
@@ -37,6 +38,9 @@ loop-again c = search needs
 bar-requires : tie.Need-bar-requires Inv-loop μ-loop
 bar-requires c κs = search needs
 
+missing-requires : tie.Need-missing-requires Inv-loop μ-loop
+missing-requires c κs = search needs
+
 returns : tie.Need-returns Inv-loop μ-loop
 returns c = search needs
 
@@ -55,4 +59,5 @@ read-spec =
     loop-less
     loop-again
     bar-requires
+    missing-requires
     returns)

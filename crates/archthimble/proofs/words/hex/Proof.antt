@@ -1,7 +1,7 @@
 -- The index is below the length at each turn, and the store keeps its length.
 use borrow.Author.Needs.{needs}
-use Prim.Native.Nat.{_-_}
 use mathlib.Core.Path.{_≡_}
+use Prim.Native.Nat.{_-_}
 use lib.ListN.{length}
 use Rattle.archthimble.proofs.words.hex.Statement.{statement}
 use Rattle.archthimble.proofs.words.hex.Tie as tie
@@ -30,20 +30,14 @@ loop-less c = search needs
 loop-again : tie.Need-loop-again Inv-loop μ-loop
 loop-again c = search needs
 
-bad-requires : tie.Need-bad-requires Inv-loop μ-loop
-bad-requires c κs = search needs
+between-requires : tie.Need-between-requires Inv-loop μ-loop
+between-requires c κs = search needs
 
 same-length : tie.Need-same-length Inv-loop μ-loop
 same-length c = search needs
 
 returns : tie.Need-returns Inv-loop μ-loop
 returns c = search needs
-
-same-length-2 : tie.Need-same-length-2 Inv-loop μ-loop
-same-length-2 c = search needs
-
-returns-2 : tie.Need-returns-2 Inv-loop μ-loop
-returns-2 c = search needs
 
 pub hex-spec : {M : Type 1} → statement M
 hex-spec =
@@ -57,8 +51,6 @@ hex-spec =
     add-i
     loop-less
     loop-again
-    bad-requires
+    between-requires
     same-length
-    returns
-    same-length-2
-    returns-2)
+    returns)

@@ -15,6 +15,9 @@ abbrev μ-loop : tie.MeasureT-loop
 word-requires : tie.Need-word-requires Inv-loop μ-loop
 word-requires c κs = search needs
 
+returns : tie.Need-returns Inv-loop μ-loop
+returns c = search needs
+
 on-requires : tie.Need-on-requires Inv-loop μ-loop
 on-requires c κs = search needs
 
@@ -24,8 +27,8 @@ loop-holds c = search needs
 same-length : tie.Need-same-length Inv-loop μ-loop
 same-length c = search needs
 
-returns : tie.Need-returns Inv-loop μ-loop
-returns c = search needs
+returns-2 : tie.Need-returns-2 Inv-loop μ-loop
+returns-2 c = search needs
 
 call-requires : tie.Need-call-requires Inv-loop μ-loop
 call-requires c κs = search needs
@@ -45,8 +48,8 @@ loop-again c = search needs
 same-length-2 : tie.Need-same-length-2 Inv-loop μ-loop
 same-length-2 c = search needs
 
-returns-2 : tie.Need-returns-2 Inv-loop μ-loop
-returns-2 c = search needs
+returns-3 : tie.Need-returns-3 Inv-loop μ-loop
+returns-3 c = search needs
 
 pub calls-spec : {M : Type 1} → statement M
 calls-spec =
@@ -55,14 +58,15 @@ calls-spec =
     Inv-loop
     μ-loop
     word-requires
+    returns
     on-requires
     loop-holds
     same-length
-    returns
+    returns-2
     call-requires
     standing-requires
     add-i
     loop-less
     loop-again
     same-length-2
-    returns-2)
+    returns-3)

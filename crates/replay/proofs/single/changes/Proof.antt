@@ -27,20 +27,8 @@ same-length c = search needs
 returns : tie.Need-returns Inv-loop μ-loop
 returns c = search needs
 
-word-requires-2 : tie.Need-word-requires-2 Inv-loop μ-loop
-word-requires-2 c κs = search needs
-
-on-requires-2 : tie.Need-on-requires-2 Inv-loop μ-loop
-on-requires-2 c κs = search needs
-
-byte-requires : tie.Need-byte-requires Inv-loop μ-loop
-byte-requires c κs = search needs
-
-put-requires : tie.Need-put-requires Inv-loop μ-loop
-put-requires c κs = search needs
-
-on-requires-3 : tie.Need-on-requires-3 Inv-loop μ-loop
-on-requires-3 c κs = search needs
+change-requires : tie.Need-change-requires Inv-loop μ-loop
+change-requires c κs = search needs
 
 add-i : tie.Need-add-i Inv-loop μ-loop
 add-i c = search needs
@@ -68,11 +56,7 @@ changes-spec =
     loop-holds
     same-length
     returns
-    word-requires-2
-    on-requires-2
-    byte-requires
-    put-requires
-    on-requires-3
+    change-requires
     add-i
     loop-less
     loop-again
