@@ -1,4 +1,6 @@
 // archthimble: what a disk's parts say, by the proved library.
+#![tactic(auto)]
+
 mod boot;
 mod files;
 mod names;

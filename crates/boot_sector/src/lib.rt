@@ -1,4 +1,6 @@
 // The geometry of a disk, read from its boot sector with refusals 1 to 7.
+#![tactic(auto)]
+
 ghost use Rattle.std.specs.Prelude.{◌≡◌, ◌≤◌, ◌^◌, length, pos};
 ghost use Rattle.format.specs.Number.{twos, Word as Number-as-Word};
 ghost use Rattle.format.specs.Number.Word.{word};

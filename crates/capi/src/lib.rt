@@ -1,4 +1,6 @@
 // The library for C and Rust: words in, values to the proved calls, words out. There is no logic here beyond that.
+#![tactic(auto)]
+
 mod answers;
 mod reader;
 mod stores;

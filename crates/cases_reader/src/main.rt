@@ -1,4 +1,6 @@
 // What the scope of work says of the reader, run call by call: its cases C4 to C6, C15 and C16, and others beside them.
+#![tactic(auto)]
+
 mod calls;
 mod text;
 mod unsound;

@@ -1,4 +1,6 @@
 // What the scope of work says of run lists, run case by case: its cases C1 to C3 and C7 to C14, and each limit at both sides.
+#![tactic(auto)]
+
 mod lists;
 mod text;
 

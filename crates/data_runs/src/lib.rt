@@ -1,4 +1,6 @@
 // Run lists: one run of a list at a time, with the refusals of the scope of work in their order.
+#![tactic(auto)]
+
 ghost use Rattle.std.specs.Prelude.{◌≡◌, ◌+◌, ◌*◌, ◌^◌, ◌<◌, ◌≤◌, length, pos, ◌+ℤ◌};
 ghost use Rattle.format.specs.Number.{little, unsigned, signed, within, within_ℤ};
 ghost use Rattle.format.specs.Runs.{step, next, moved, delta_part, on_disk, is_hole, ends};

@@ -1,4 +1,6 @@
 // Thin calls that change a lent reader in place: the reader is copied out, the by-value method is called, and what it leaves is stored.
+#![tactic(auto)]
+
 ghost use Rattle.std.specs.Prelude.{◌≡◌};
 ghost use Rattle.format.specs.Calls.{held, leaves};
 ghost use Rattle.non_resident.specs.Shown.{seen, shown_sought, shown_outcome};

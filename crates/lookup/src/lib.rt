@@ -1,4 +1,6 @@
 // Where one offset of a run list lies, worked out from the list alone.
+#![tactic(auto)]
+
 ghost use Rattle.std.specs.Prelude.{◌≡◌, ◌+◌, ◌<◌, ◌^◌};
 ghost use Rattle.format.specs.Runs.{Inside};
 ghost use Rattle.format.specs.Listed.{byte, lookup, listed, run_list, list_fits, looked_up};

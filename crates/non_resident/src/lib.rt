@@ -1,4 +1,6 @@
 // The reader of a non-resident value: opening, seeking, reading into a store of spans, data position.
+#![tactic(auto)]
+
 ghost use Rattle.std.specs.Prelude.{◌≡◌, true, ◌+◌, ◌/◌, ◌^◌, ◌<◌, ◌≤◌, min, length, pos, ◌+ℤ◌};
 ghost use Rattle.std.proofs.lemmas.List.Edits.{sets};
 ghost use Rattle.format.specs.Number.{within_ℤ};

@@ -1,4 +1,6 @@
 // Update sequence repair of a lent record, in place.
+#![tactic(auto)]
+
 ghost use Rattle.std.specs.Prelude.{◌≡◌, ◌+◌, ◌*◌, ◌≤◌, length};
 ghost use Rattle.format.specs.Number.{unsigned};
 ghost use Rattle.format.specs.Record.{repair, sectors, mend, length_fits, reaches_past};

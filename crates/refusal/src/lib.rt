@@ -1,4 +1,6 @@
 // Why a call said no: one case for each number of the scope of work, with its values in the order of its table.
+#![tactic(auto)]
+
 ghost use Rattle.std.specs.Prelude.{◌≡◌};
 ghost use Rattle.refusal.specs.Refusals.{number as Refusals·number, values as Refusals·values};
 ghost use Rattle.refusal.specs.Refusals.{shown_values};

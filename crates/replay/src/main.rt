@@ -1,5 +1,7 @@
 // Replays the fixed list: answers that crate ntfs 0.4.0 gave, entry by entry, against the library as C calls it. Each entry is tried once
 // more with its last word altered and must then differ, so that a comparison that sees nothing is seen.
+#![tactic(auto)]
+
 mod body;
 mod history;
 mod joined;

@@ -1,4 +1,6 @@
 // Small disks' parts to try the programs on, each as a definition lists it.
+#![tactic(auto)]
+
 ghost use Rattle.std.specs.Prelude.{◌≡◌};
 ghost use Rattle.format.specs.Sample.{boot_sample};
 ghost use Rattle.format.specs.RecordCases.{record_sample};

@@ -1,4 +1,6 @@
 // Numbers: out of bytes, as a word can hold them, an LCN plus a signed delta, an LCN's byte position.
+#![tactic(auto)]
+
 ghost use Rattle.std.specs.Prelude.{◌≡◌, ◌+◌, ◌-◌, ◌*◌, ◌^◌, ◌≤◌, min, pos, ◌+ℤ◌};
 ghost use Rattle.format.specs.Number.{unsigned, twos, within, within_ℤ, power_of_two, power_between, cluster_sound, between};
 ghost use Rattle.types.specs.Shown.{shown_word, to_ℤ, eight_at_most};
