@@ -11,7 +11,7 @@ ghost use Rattle.boot_sector.specs.Shown.{shown, AtMost};
 use refusal::Refusal;
 use types::{Delta, Word};
 
-#[derive(Drop)]
+#[derive(Clone, Copy)]
 pub struct Geometry {
     pub sector_size: u64,
     pub cluster_size: u64,
@@ -24,7 +24,7 @@ pub struct Geometry {
     pub serial: u64,
 }
 
-#[derive(Drop)]
+#[derive(Clone, Copy)]
 pub enum Boot {
     Read(Geometry),
     Refused(Refusal),

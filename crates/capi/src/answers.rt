@@ -20,7 +20,7 @@ use record::Repaired;
 use refusal::{Refusal, Values};
 use types::{Delta, Word};
 
-#[derive(Drop)]
+#[derive(Clone, Copy)]
 pub struct Told {
     pub number: u64,
     pub a: u64,

@@ -11,27 +11,27 @@ ghost use Rattle.data_runs.specs.Shown.{shown};
 use refusal::Refusal;
 use types::{Delta, Lcn, Word};
 
-#[derive(Drop)]
+#[derive(Clone, Copy)]
 pub enum Place {
     Disk(u64),
     Hole,
 }
 
 // A size in bytes, with either a disk place or a hole inside it.
-#[derive(Drop)]
+#[derive(Clone, Copy)]
 pub struct Run {
     pub size: u64,
     pub place: Place,
 }
 
 // Where the next run's header stands, and the LCN of the run before.
-#[derive(Drop)]
+#[derive(Clone, Copy)]
 pub struct Cursor {
     pub at: usize,
     pub lcn: u64,
 }
 
-#[derive(Drop)]
+#[derive(Clone, Copy)]
 pub enum Decoded {
     Run(Run, Cursor),
     Over,

@@ -10,7 +10,7 @@ ghost use Rattle.lookup.specs.Shown.{shown};
 use data_runs::{Cursor, Decoded, Place};
 use refusal::Refusal;
 
-#[derive(Drop)]
+#[derive(Clone, Copy)]
 pub enum Found {
     Disk(u64),
     Hole,

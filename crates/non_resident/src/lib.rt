@@ -17,14 +17,14 @@ use data_runs::{Cursor, Decoded, Place, Run};
 use refusal::Refusal;
 use types::{Delta, Word};
 
-#[derive(Drop)]
+#[derive(Clone, Copy)]
 pub enum Current {
     Nothing,
     At(Run),
 }
 
 // Between calls: the list is lent with each of them.
-#[derive(Drop)]
+#[derive(Clone, Copy)]
 pub struct Reader {
     pub cluster: u64,
     pub cursor: usize,
@@ -35,40 +35,40 @@ pub struct Reader {
     pub size: u64,
 }
 
-#[derive(Drop)]
+#[derive(Clone, Copy)]
 pub enum From {
     Start,
     Place,
     End,
 }
 
-#[derive(Drop)]
+#[derive(Clone, Copy)]
 pub enum By {
     Unsigned(u64),
     Signed(i64),
 }
 
-#[derive(Drop)]
+#[derive(Clone, Copy)]
 pub enum Sought {
     At(Reader),
     Refused(Refusal),
 }
 
 // Span count, byte count and reader.
-#[derive(Drop)]
+#[derive(Clone, Copy)]
 pub struct Reading {
     pub spans: usize,
     pub bytes: u64,
     pub reader: Reader,
 }
 
-#[derive(Drop)]
+#[derive(Clone, Copy)]
 pub enum Outcome {
     Given(Reading),
     Refused(Refusal),
 }
 
-#[derive(Drop)]
+#[derive(Clone, Copy)]
 pub enum Position {
     At(u64),
     Nowhere,
@@ -76,27 +76,27 @@ pub enum Position {
 }
 
 // Where a reader stands in its list: the cursor behind the current run, and the displacement in that run.
-#[derive(Drop)]
+#[derive(Clone, Copy)]
 struct Stand {
     cursor: Cursor,
     current: Current,
     displacement: u64,
 }
 
-#[derive(Drop)]
+#[derive(Clone, Copy)]
 enum Settled {
     At(Stand),
     Refused(Refusal),
 }
 
-#[derive(Drop)]
+#[derive(Clone, Copy)]
 struct Span {
     place: Place,
     length: u64,
 }
 
 // What comes next of a read.
-#[derive(Drop)]
+#[derive(Clone, Copy)]
 enum Turn {
     Stop(Reader),
     Give(Span, Reader),

@@ -8,14 +8,14 @@ ghost use Rattle.record.specs.Shown.{outcome, of_sector};
 
 use refusal::Refusal;
 
-#[derive(Drop)]
+#[derive(Clone, Copy)]
 pub enum Repaired {
     Done,
     Refused(Refusal),
 }
 
 // One sector's end: mended, or the two bytes that were found.
-#[derive(Drop)]
+#[derive(Clone, Copy)]
 enum Mended {
     Done,
     Torn(u8, u8),

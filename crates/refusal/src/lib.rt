@@ -8,7 +8,7 @@ ghost use Rattle.refusal.specs.Refusals.{shown_values};
 use types::Delta;
 
 // Up to three numbers that go with an answer.
-#[derive(Drop)]
+#[derive(Clone, Copy)]
 pub enum Values {
     None,
     One(Delta),
@@ -16,7 +16,7 @@ pub enum Values {
     Three(Delta, Delta, Delta),
 }
 
-#[derive(Drop)]
+#[derive(Clone, Copy)]
 pub enum Refusal {
     // the boot sector
     Short,

@@ -6,21 +6,21 @@ ghost use Rattle.format.specs.Number.{unsigned, twos, within, within_ℤ, power_
 ghost use Rattle.types.specs.Shown.{shown_word, to_ℤ, eight_at_most};
 
 // A number from 0 to 2^64 - 1, or one outside.
-#[derive(Drop)]
+#[derive(Clone, Copy)]
 pub enum Word {
     Is(u64),
     Out,
 }
 
 // A signed number as a direction and a size: `Up(n)` is n, `Down(n)` is -(n + 1), so that each number has one form.
-#[derive(Drop)]
+#[derive(Clone, Copy)]
 pub enum Delta {
     Up(u64),
     Down(u64),
 }
 
 // A logical cluster number.
-#[derive(Drop)]
+#[derive(Clone, Copy)]
 pub struct Lcn(pub u64);
 
 impl Delta {

@@ -1,0 +1,10 @@
+-- The stores are the definition's changes, one by one.
+use borrow.Author.Rules.{rules}
+use mathlib.Core.Path.{refl}
+use Rattle.format.specs.Sample.{changed}
+use Rattle.format.specs.RecordCases.{record_sample}
+use Rattle.samples.proofs.record.Goals as goal
+
+pub returns : goal.returns
+unfolding record_sample changed
+returns c = refl

@@ -1,0 +1,12 @@
+-- The largest number of i bytes grows by a byte each turn (Digits).
+use Prim.Native.Nat.{◌-◌}
+use mathlib.Core.Path.{refl}
+use native.Mathlib.Omega.{arith}
+use Rattle.types.proofs.Digits.{Most, most_room, most_more, most_all}
+use Rattle.types.proofs.largest.Given as goal
+
+abbrev pub invariant-loop-i : goal.invariant-loop-i
+invariant-loop-i l = Most l.n l.i l.most
+
+abbrev pub decreases-loop-i : goal.decreases-loop-i
+decreases-loop-i l = l.n - l.i
