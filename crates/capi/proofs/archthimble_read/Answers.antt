@@ -1,0 +1,26 @@
+-- The stores' lengths are tested first (Fit); then what the call on the reader promises, told in words.
+use mathlib.Core.Path.{refl, ap, ◌∙◌}
+use lib.Seq.{sets}
+use Rattle.format.specs.Calls.{Held, Count, reading, counted, held, stored}
+use Rattle.format.specs.Listed.{Answer}
+use Rattle.format.specs.Pick.{yes_in, no_is}
+use Rattle.capi.specs.Words.{Told, tell_count, reader_left}
+use Rattle.capi.proofs.Fit.{both_long, unfit, fit}
+use borrow.Author.Rules.{rules}
+use Rattle.std.proofs.Common.{not}
+use Rattle.capi.proofs.archthimble_read.Goals as goal
+
+pub returns-then-not-both_fit : goal.returns-then-not-both_fit
+returns-then-not-both_fit c = let a = c.args in let e = unfit a.reader.now a.out.now _ c.both_fit.ensures (ap not c.if-not-both_fit.true) in (no_is _ e refl, no_is _ e refl, no_is _ e refl, no_is _ e refl)
+
+pub unpack-r-requires : goal.unpack-r-requires
+unpack-r-requires c = let a = c.args in (both_long a.reader.now a.out.now (fit a.reader.now a.out.now _ c.both_fit.ensures (ap not c.if-not-both_fit.false))).0
+
+pub keep_count-t-requires : goal.keep_count-t-requires
+keep_count-t-requires c = let a = c.args in (both_long a.reader.now a.out.now (fit a.reader.now a.out.now _ c.both_fit.ensures (ap not c.if-not-both_fit.false))).0
+
+pub put-requires : goal.put-requires
+put-requires c = let a = c.args in (both_long a.reader.now a.out.now (fit a.reader.now a.out.now _ c.both_fit.ensures (ap not c.if-not-both_fit.false))).1
+
+pub returns : goal.returns
+returns c = let a = c.args in let e = fit a.reader.now a.out.now _ c.both_fit.ensures (ap not c.if-not-both_fit.false) in let q = c.read-x.ensures.0 ∙ ap (λ (h : Held). counted h.cluster (reading a.list.now h a.w a.store.now)) c.unpack-r.ensures in let t = c.keep_count-t.ensures.0 ∙ ap tell_count q in (yes_in _ e (c.put.ensures.0 ∙ ap (λ (x : Told). x.number) t), yes_in _ e (c.put.ensures.1 ∙ ap (λ (x : Told). sets a.out.now 0 x.words) t), yes_in _ e (c.keep_count-t.ensures.1 ∙ ap (λ (x : Answer Count). reader_left a.reader.now (held x)) q), yes_in _ e (c.read-x.ensures.1 ∙ ap (λ (h : Held). stored a.store.now (reading a.list.now h a.w a.store.now)) c.unpack-r.ensures))

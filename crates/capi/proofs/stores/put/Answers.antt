@@ -1,0 +1,7 @@
+-- Two runs of four words are one of eight.
+use mathlib.Core.Path.{refl}
+use borrow.Author.Rules.{rules}
+use Rattle.capi.proofs.stores.put.Goals as goal
+
+pub returns : goal.returns
+returns c = (refl, rw (c.four-2.ensures, c.four.ensures))
