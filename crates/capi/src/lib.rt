@@ -22,36 +22,26 @@ use stores::{OUT, SHORT, both_fit, put, tell};
 use types::Lcn;
 
 // An LCN plus a signed delta: 1 and the sum, or 0 where it is below 0 or over 2^64 - 1.
-#[unsafe(no_mangle)]
-pub extern "C" fn archthimble_lcn_plus(lcn: u64, delta: i64, out: &mut [u64]) -> u64
+pub fn archthimble_lcn_plus(lcn: u64, delta: i64, out: &mut [u64]) -> u64
     ensures { (result ≡ answered (fits out.old) (tell_word (within_ℤ (pos lcn +ℤ delta)))) × (out.new ≡ written (fits out.old) out.old (tell_word (within_ℤ (pos lcn +ℤ delta)))) }
 {
     tell(out, answers::word(Lcn(lcn).plus(delta)))
 }
 
 // An LCN's byte position: 1 and the position, or 0 where it is over 2^64 - 1.
-#[unsafe(no_mangle)]
-pub extern "C" fn archthimble_lcn_position(lcn: u64, cluster: u64, out: &mut [u64]) -> u64
+pub fn archthimble_lcn_position(lcn: u64, cluster: u64, out: &mut [u64]) -> u64
     ensures { (result ≡ answered (fits out.old) (tell_word (within (lcn * cluster)))) × (out.new ≡ written (fits out.old) out.old (tell_word (within (lcn * cluster)))) }
 {
     tell(out, answers::word(Lcn(lcn).position(cluster)))
 }
 
-#[unsafe(no_mangle)]
-pub extern "C" fn archthimble_geometry(sector: &[u8], out: &mut [u64]) -> u64
+pub fn archthimble_geometry(sector: &[u8], out: &mut [u64]) -> u64
     ensures { (result ≡ answered (fits out.old) (tell_boot (boot sector.now))) × (out.new ≡ written (fits out.old) out.old (tell_boot (boot sector.now))) }
 {
     tell(out, answers::geometry(Geometry::read(sector)))
 }
 
-#[unsafe(no_mangle)]
-pub extern "C" fn archthimble_next_run(
-    list: &[u8],
-    cluster: u64,
-    at: u64,
-    lcn: u64,
-    out: &mut [u64],
-) -> u64
+pub fn archthimble_next_run(list: &[u8], cluster: u64, at: u64, lcn: u64, out: &mut [u64]) -> u64
     ensures { (result ≡ answered (fits out.old) (tell_step (next cluster list.now at lcn))) × (out.new ≡ written (fits out.old) out.old (tell_step (next cluster list.now at lcn))) }
 {
     let c = Cursor {
@@ -61,16 +51,14 @@ pub extern "C" fn archthimble_next_run(
     tell(out, answers::run(c.next(list, cluster)))
 }
 
-#[unsafe(no_mangle)]
-pub extern "C" fn archthimble_lookup(list: &[u8], cluster: u64, offset: u64, out: &mut [u64]) -> u64
+pub fn archthimble_lookup(list: &[u8], cluster: u64, offset: u64, out: &mut [u64]) -> u64
     ensures { (result ≡ answered (fits out.old) (tell_where (looked_up cluster list.now offset))) × (out.new ≡ written (fits out.old) out.old (tell_where (looked_up cluster list.now offset))) }
 {
     tell(out, answers::found(lookup::lookup(list, cluster, offset)))
 }
 
 // Repairs the record in place; a store that is too short leaves it.
-#[unsafe(no_mangle)]
-pub extern "C" fn archthimble_repair(lent: &mut [u8], out: &mut [u64]) -> u64
+pub fn archthimble_repair(lent: &mut [u8], out: &mut [u64]) -> u64
     ensures { (result ≡ answered (fits out.old) (tell_repair (repair lent.old))) × (out.new ≡ written (fits out.old) out.old (tell_repair (repair lent.old))) × (lent.new ≡ pick (fits out.old) (record_left (repair lent.old)) lent.old) }
 {
     if out.len() < OUT {
@@ -80,8 +68,7 @@ pub extern "C" fn archthimble_repair(lent: &mut [u8], out: &mut [u64]) -> u64
     put(out, t)
 }
 
-#[unsafe(no_mangle)]
-pub extern "C" fn archthimble_open(
+pub fn archthimble_open(
     list: &[u8],
     cluster: u64,
     size: u64,
@@ -97,14 +84,7 @@ pub extern "C" fn archthimble_open(
     put(out, t)
 }
 
-#[unsafe(no_mangle)]
-pub extern "C" fn archthimble_seek(
-    list: &[u8],
-    reader: &mut [u64],
-    from: u64,
-    by: u64,
-    out: &mut [u64],
-) -> u64
+pub fn archthimble_seek(list: &[u8], reader: &mut [u64], from: u64, by: u64, out: &mut [u64]) -> u64
     ensures { (result ≡ answered (both_fit reader.old out.old) (tell_held (seeking list.now (held_of reader.old) (from_of from) (pos by)))) × (out.new ≡ written (both_fit reader.old out.old) out.old (tell_held (seeking list.now (held_of reader.old) (from_of from) (pos by)))) × (reader.new ≡ pick (both_fit reader.old out.old) (reader_left reader.old (seeking list.now (held_of reader.old) (from_of from) (pos by))) reader.old) }
 {
     if !both_fit(reader, out) {
@@ -116,8 +96,7 @@ pub extern "C" fn archthimble_seek(
     put(out, t)
 }
 
-#[unsafe(no_mangle)]
-pub extern "C" fn archthimble_seek_signed(
+pub fn archthimble_seek_signed(
     list: &[u8],
     reader: &mut [u64],
     from: u64,
@@ -135,8 +114,7 @@ pub extern "C" fn archthimble_seek_signed(
     put(out, t)
 }
 
-#[unsafe(no_mangle)]
-pub extern "C" fn archthimble_read(
+pub fn archthimble_read(
     list: &[u8],
     reader: &mut [u64],
     w: u64,
@@ -154,8 +132,7 @@ pub extern "C" fn archthimble_read(
     put(out, t)
 }
 
-#[unsafe(no_mangle)]
-pub extern "C" fn archthimble_data_position(reader: &[u64], out: &mut [u64]) -> u64
+pub fn archthimble_data_position(reader: &[u64], out: &mut [u64]) -> u64
     ensures { (result ≡ answered (both_fit reader.now out.old) (tell_position (standing (held_of reader.now)))) × (out.new ≡ written (both_fit reader.now out.old) out.old (tell_position (standing (held_of reader.now)))) }
 {
     if !both_fit(reader, out) {
