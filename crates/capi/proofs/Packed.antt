@@ -1,12 +1,11 @@
 -- A reader that was put into words is read back whole, so that a history may travel in words.
 use Prim.Native.Nat.{ℕ, ◌≤◌}
-use mathlib.Core.Path.{◌≡◌, refl, sym, ap, ◌∙◌}
-use mathlib.Core.List.{List, [], ◌∷◌, ◌++◌}
-use native.Mathlib.Omega.{arith}
-use lib.ListN.{length, get_or, take, drop}
+use mathlib.Core.Path.{◌≡◌, refl, ap, ◌∙◌}
+use mathlib.Core.List.{List, ◌++◌}
+use lib.ListN.{length, drop}
 use lib.Seq.{sets, sets-eq}
 use Rattle.format.specs.Pick.{pick}
-use Rattle.format.specs.Runs.{Place, Run}
+use Rattle.format.specs.Runs.{Place}
 use Rattle.format.specs.Runs.Place.{disk, hole}
 use Rattle.format.specs.Reader.{Current}
 use Rattle.format.specs.Reader.Current.{none, some}

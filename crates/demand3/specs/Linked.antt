@@ -8,7 +8,6 @@ use Rattle.format.specs.Number.{cluster_sound}
 use Rattle.format.specs.Listed.{Answer as G, either, run_list, list, ToItsEnd}
 use Rattle.format.specs.Reader.{base, target, Reading as R}
 use Rattle.format.specs.Calls.{counted, words}
-use Rattle.format.specs.History.{history}
 use Rattle.format.specs.Demand3.{Named}
 use Rattle.non_resident.specs.Shown.{shown_from, amount_of, shown_outcome}
 use Rattle.non_resident.specs.declared.Reader.{Reader}

@@ -1,24 +1,21 @@
 -- Reads by the turn: each span is the least of three remainders that aren't 0, and the reader then stands behind it.
-use Prim.Native.Nat.{ℕ, zero, suc, ◌+◌, ◌-◌, ◌<◌, ◌≤◌, min}
+use Prim.Native.Nat.{ℕ, zero, suc, ◌+◌, ◌-◌, ◌<◌, min}
 use mathlib.Core.Path.{◌≡◌, refl, sym, ap, subst, ◌∙◌}
 use mathlib.Core.List.{List, [], ◌∷◌}
 use native.Mathlib.Omega.{arith}
 use native.Mathlib.Nat.{add-zero, add_assoc}
-use lib.ListN.{length}
-use lib.Dec.{ltb, leb, eqb}
-use borrow.Author.Tests.{eqb-false, leb-false, lt-ltb, le-ltb, lt-leb, eq-eqb, ne_eqb}
-use Rattle.format.specs.Pick.{pick, pick_all, pick_lt, pick_yes, pick_no}
+use borrow.Author.Tests.{le-ltb, ne_eqb}
+use Rattle.format.specs.Pick.{pick_no}
 use Rattle.format.specs.Runs.{Place, Run, Step}
 use Rattle.format.specs.Runs.Place.{disk, hole}
 use Rattle.format.specs.Runs.Step.{over, found, faulty}
-use Rattle.format.specs.Listed.{Answer, Gives, IfGiven, then, either, RunList, Lawful, listed}
+use Rattle.format.specs.Listed.{Answer, Gives, IfGiven, either, RunList, Lawful}
 use Rattle.format.specs.Listed.Answer.{given, refused}
-use Rattle.format.specs.Reader.{Current, Stand, Reader, start, entered, left_of, left, moved, settle, forward, at, seek_to, Span, Reading, further, here, nothing, before, Turn, give, fetch, turn, follow, read, data_position, position_of}
+use Rattle.format.specs.Reader.{Current, Stand, Reader, entered, left_of, left, forward, at, seek_to, Span, Reading, further, here, nothing, before, Turn, give, fetch, turn, follow, read, data_position, position_of}
 use Rattle.format.specs.Reader.Current.{none, some}
 use Rattle.format.specs.Reader.Turn.{stops, gives, refuses}
 use Rattle.format.specs.Reader.Position.{at_byte}
-use Rattle.format.specs.History.{total, NoneEmpty, amount}
-use Rattle.format.specs.Demand3.{Named}
+use Rattle.format.specs.History.{total, NoneEmpty}
 use Rattle.format.specs.Laws.{Summed, EveryReadSums, ReadMoves, behind, PositionFollows, SeeksOn}
 use Rattle.format.proofs.Reader.{turn_all, settle_in}
 

@@ -1,7 +1,7 @@
 -- Laws of a list's runs: more fuel changes nothing, so the list follows one rule with no fuel in it; a list of n bytes has at most
 -- n / 2 runs and is unrolled within n / 2 + 1 steps. And the rules that the code's proofs cite, one for each thing that a step can say.
 use Prim.Native.Nat.{ℕ, zero, suc, ◌+◌, ◌-◌, ◌*◌, ◌/◌, ◌≤◌, ◌<◌}
-use mathlib.Core.Path.{◌≡◌, refl, ap, sym, subst, ◌∙◌}
+use mathlib.Core.Path.{◌≡◌, refl, ap, ◌∙◌}
 use mathlib.Core.List.{List}
 use native.Mathlib.Omega.{arith}
 use lib.Dec.{ltb}
@@ -9,8 +9,8 @@ use lib.IntN.{ℤ}
 use Rattle.format.specs.Pick.{pick}
 use Rattle.format.specs.Runs.{Run, Step}
 use Rattle.format.specs.Runs.Step.{over, found, faulty}
-use Rattle.format.specs.Listed.{RunList, Lawful, Listed, unroll, listed_by, listed, list, runs, byte, lookup, Where}
-use Rattle.format.specs.Listed.Listed.{ends, run, breaks}
+use Rattle.format.specs.Listed.{RunList, Lawful, Listed, unroll, listed_by, listed, list, runs, byte, lookup}
+use Rattle.format.specs.Listed.Listed.{run}
 use Rattle.format.specs.Listed.Where.{not_covered, unknown}
 
 -- only what stands behind a run is asked of the rest

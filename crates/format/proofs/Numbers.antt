@@ -1,16 +1,16 @@
 -- Laws of numbers: differences of naturals as integers, the two's complement from the largest number of n bytes (once, over
 -- the byte length), a number within a word, and little-endian numbers byte by byte.
 use Prim.Native.Nat.{ℕ, zero, suc, ◌+◌, ◌-◌, ◌*◌, ◌/◌, ◌^◌, ◌<◌, ◌≤◌}
-use mathlib.Core.Path.{◌≡◌, refl, sym, ap, ◌∙◌}
-use mathlib.Core.List.{List, [], ◌∷◌}
+use mathlib.Core.Path.{◌≡◌, sym, ap, ◌∙◌}
+use mathlib.Core.List.{List}
 use native.Mathlib.Omega.{arith}
 use native.Mathlib.Numerals.{add-one}
 use borrow.Author.Tests.{lt-ltb, le-ltb}
 use lib.ListN.{length, get_or, take, drop}
 use lib.Seq.{drop-cons}
-use lib.IntN.{ℤ, pos, negsuc, ◌-ℤ◌}
-use Rattle.format.specs.Pick.{pick, pick_yes, pick_no}
-use Rattle.format.specs.Number.{little, twos, unsigned, Word, within}
+use lib.IntN.{pos, negsuc, ◌-ℤ◌}
+use Rattle.format.specs.Pick.{pick_yes, pick_no}
+use Rattle.format.specs.Number.{little, twos, unsigned, within}
 use Rattle.format.specs.Number.Word.{word, outside}
 
 pub sub_lt : (a b : ℕ) → a < b → pos a -ℤ pos b ≡ negsuc (b - suc a)

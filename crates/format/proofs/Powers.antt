@@ -1,6 +1,6 @@
 -- Laws of powers of two. `is_power k m` is a search over the powers k to k + m - 1, so it splits into two searches, and a
 -- search whose powers are all too small or all too large fails.
-use Prim.Native.Nat.{ℕ, zero, suc, ◌+◌, ◌-◌, ◌*◌, ◌^◌, ◌<◌, ◌≤◌}
+use Prim.Native.Nat.{ℕ, zero, suc, ◌+◌, ◌^◌, ◌<◌, ◌≤◌}
 use mathlib.Core.Path.{◌≡◌, refl, sym, ap, ◌∙◌}
 use mathlib.Core.Bool.{Bool, true, false, ◌||◌, or-true, or-false}
 use mathlib.Core.Logic.{◌⊎◌, inl, inr, ⊎_elim}
@@ -11,7 +11,7 @@ use borrow.Author.Tests.{eq-eqb, ne_eqb, eqb-true, lt-ltb, le-ltb, ltb-false}
 use types.Run.{OneOf}
 use lib.Pow.{pow_mono, pow-lt}
 use lib.Dec.{eqb, ltb}
-use Rattle.format.specs.Pick.{pick, pick_true, pick_or, pick_all, yes_is, no_is}
+use Rattle.format.specs.Pick.{pick_true, pick_or, pick_all, yes_is, no_is}
 use Rattle.format.specs.Number.{is_power, power_of_two, between, power_between, cluster_sound, min_cluster, max_cluster}
 
 -- the powers as the keys of a choice

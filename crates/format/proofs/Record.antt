@@ -1,6 +1,6 @@
 -- Laws of the repair, sector by sector.
-use Prim.Native.Nat.{ℕ, zero, suc, ◌+◌, ◌-◌, ◌*◌, ◌<◌, ◌≤◌}
-use mathlib.Core.Path.{◌≡◌, refl, sym, ap, ◌∙◌}
+use Prim.Native.Nat.{ℕ, suc, ◌+◌, ◌-◌, ◌*◌, ◌≤◌}
+use mathlib.Core.Path.{◌≡◌}
 use mathlib.Core.Bool.{true, false}
 use mathlib.Core.List.{List}
 use native.Mathlib.Omega.{arith}
@@ -8,7 +8,7 @@ use borrow.Author.Tests.{ltb-false}
 use lib.Dec.{ltb}
 use Rattle.format.specs.Pick.{pick_not}
 use Rattle.format.proofs.Powers.{between_bounds}
-use Rattle.format.specs.Record.{Repair, Sector, mend, mismatch, sectors, length_fits, min_record, max_record, reaches_past}
+use Rattle.format.specs.Record.{mend, mismatch, sectors, length_fits, min_record, max_record, reaches_past}
 use Rattle.format.specs.Record.Repair.{repaired}
 use Rattle.format.specs.Record.Sector.{mended, torn}
 

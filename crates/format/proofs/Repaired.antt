@@ -7,18 +7,17 @@ use mathlib.Core.Bool.{Bool, true, false, not, ◌&&◌}
 use mathlib.Core.Logic.{◌⊎◌, inl, inr, ⊎_elim}
 use mathlib.Core.List.{List, [], ◌∷◌}
 use native.Mathlib.Omega.{arith}
-use native.Mathlib.Nat.{add-zero, zero-add}
+use native.Mathlib.Nat.{add-zero}
 use native.Mathlib.Numerals.{add-one}
 use native.Mathlib.Decide.{dec_lt}
 use lib.ListN.{length, get_or, set, length-set}
 use lib.Seq.{get_or-set_same, get_or-set_other}
 use lib.Dec.{ltb, eqb}
-use lib.IntN.{ℤ, pos}
-use Rattle.format.specs.Pick.{pick, pick_all}
+use lib.IntN.{pos}
+use Rattle.format.specs.Pick.{pick_all}
 use Rattle.format.specs.Record.{Repair, Sector, end_at, entry_at, ended, mend, mismatch, after, sectors, repair, sequence_offset, sequence_count, length_fits, reaches_past, from_number}
 use Rattle.format.proofs.Record.{reaches_not}
 use Rattle.format.specs.Record.Repair.{repaired, refused}
-use Rattle.format.specs.Record.Sector.{mended, torn}
 
 -- the record with its first j sectors mended, each by its entry as it stands then
 unfoldable pub up_to : ℕ → ℕ → List ℕ → List ℕ

@@ -1,6 +1,6 @@
 -- The boot sector: what its first 512 bytes say of the disk's geometry, or a refusal (1 to 7, tried in that order) as its
 -- number with its values.
-use Rattle.std.specs.Prelude.{ℕ, suc, ◌-◌, ◌*◌, ◌^◌, Bool, true, false, not, ◌&&◌, List, [], ◌∷◌, length, get_or, ltb, leb, eqb, ℤ, pos, negsuc}
+use Rattle.std.specs.Prelude.{ℕ, suc, ◌-◌, ◌*◌, ◌^◌, Bool, not, ◌&&◌, List, [], ◌∷◌, length, get_or, ltb, eqb, ℤ, pos, negsuc}
 use Rattle.format.specs.Pick.{pick}
 use Rattle.format.specs.Number.{unsigned, twos, within, Word, power_of_two, power_between, between, min_cluster, max_cluster}
 use Rattle.format.specs.Number.Word.{word, outside}

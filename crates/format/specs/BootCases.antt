@@ -1,6 +1,6 @@
 -- What the scope's text says of the boot sector, number by number, in one table under one proved statement: a sample with some
 -- bytes changed, and what is read.
-use Rattle.std.specs.Prelude.{ℕ, ◌≡◌, refl, List, [], ◌∷◌, ◌++◌, take, ℤ, pos, negsuc}
+use Rattle.std.specs.Prelude.{ℕ, ◌≡◌, refl, List, [], ◌∷◌, ◌++◌, take, pos, negsuc}
 use Rattle.format.specs.Pick.{pick}
 use Rattle.format.specs.Number.{little, twos, unsigned, within, is_power, power_of_two, between, power_between}
 use Rattle.format.specs.Boot.{boot, Boot, marked, sectors_of, record_size_of, clustered}

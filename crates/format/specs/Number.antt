@@ -1,5 +1,5 @@
 -- Numbers as bytes hold them, numbers that a 64-bit word can hold, and powers of two.
-use Rattle.std.specs.Prelude.{ℕ, zero, suc, ◌+◌, ◌*◌, ◌^◌, Bool, true, false, ◌||◌, List, [], ◌∷◌, take, drop, ltb, leb, eqb, ℤ, pos, negsuc, ◌-ℤ◌}
+use Rattle.std.specs.Prelude.{ℕ, zero, suc, ◌+◌, ◌*◌, ◌^◌, Bool, true, false, ◌||◌, List, [], ◌∷◌, take, drop, ltb, eqb, ℤ, pos, negsuc, ◌-ℤ◌}
 use Rattle.format.specs.Pick.{pick}
 
 -- little-endian

@@ -1,7 +1,7 @@
 -- Record repair: the outcome and the record that is left behind, by the steps as they are written. The sequence number is copied
 -- first; sector by sector, the two bytes at its end must equal the number, and are then replaced by the sector's entry as it stands
 -- at that moment.
-use Rattle.std.specs.Prelude.{ℕ, zero, suc, ◌+◌, ◌-◌, ◌*◌, Bool, true, false, not, ◌&&◌, List, [], ◌∷◌, length, get_or, set, ltb, eqb, ℤ, pos}
+use Rattle.std.specs.Prelude.{ℕ, zero, suc, ◌+◌, ◌-◌, ◌*◌, Bool, true, not, ◌&&◌, List, [], ◌∷◌, length, get_or, set, ltb, eqb, ℤ, pos}
 use Rattle.format.specs.Pick.{pick}
 use Rattle.format.specs.Number.{unsigned, between}
 

@@ -1,10 +1,10 @@
 -- Repairs worked out by hand, in one table under one proved statement: a sample record with some bytes changed, and what is left.
 -- The sample: 1,024 bytes, the sequence number 07 00 at 48, entries A1 A2 and B1 B2.
-use Rattle.std.specs.Prelude.{ℕ, ◌≡◌, refl, List, [], ◌∷◌, replicate, take}
+use Rattle.std.specs.Prelude.{ℕ, ◌≡◌, refl, List, [], ◌∷◌, replicate}
 use lib.IntN.{pos}
 use Rattle.format.specs.Pick.{pick}
 use Rattle.format.specs.Number.{little, unsigned, between}
-use Rattle.format.specs.Record.{Repair, ended, mend, mismatch, sectors, length_fits, reaches_past, repair}
+use Rattle.format.specs.Record.{ended, mend, mismatch, sectors, length_fits, reaches_past, repair}
 use Rattle.format.specs.Record.Repair.{repaired, refused}
 use Rattle.format.specs.Sample.{Change, changed}
 use Rattle.format.specs.Sample.Change.{at}

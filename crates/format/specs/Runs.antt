@@ -1,6 +1,6 @@
 -- Run lists: what stands at a cursor of a list after a previous LCN, with refusals 13 to 19 in their order, each its number and its
 -- values. The cursor given is the refused run's header.
-use Rattle.std.specs.Prelude.{ℕ, ◌+◌, ◌-◌, ◌*◌, ◌/◌, ◌%◌, ◌^◌, ◌<◌, Bool, true, false, not, List, [], ◌∷◌, length, get_or, ltb, leb, eqb, ℤ, pos, negsuc, ◌+ℤ◌}
+use Rattle.std.specs.Prelude.{ℕ, ◌+◌, ◌-◌, ◌*◌, ◌/◌, ◌%◌, ◌^◌, ◌<◌, Bool, true, not, List, [], ◌∷◌, length, get_or, ltb, leb, eqb, ℤ, pos, negsuc, ◌+ℤ◌}
 use Rattle.format.specs.Pick.{pick}
 use Rattle.format.specs.Number.{unsigned, signed, within, within_ℤ, cluster_sound, Word}
 use Rattle.format.specs.Number.Word.{word, outside}

@@ -13,7 +13,7 @@ use Rattle.format.specs.Runs.{Run, Step, Inside}
 use Rattle.format.specs.Runs.Step.{over, found, faulty}
 use Rattle.format.specs.Listed.{Answer, either, RunList, run_list}
 use Rattle.format.specs.Listed.Answer.{given, refused}
-use Rattle.format.specs.Reader.{Stand, Reader, left, Span, Reading, nothing, before, Turn, give, fetch, turn, follow, read}
+use Rattle.format.specs.Reader.{Stand, Reader, Span, Reading, nothing, before, Turn, give, fetch, turn, follow, read}
 use Rattle.format.specs.Reader.Current.{some}
 use Rattle.format.specs.Reader.Turn.{stops, gives, refuses}
 use Rattle.format.specs.Calls.{Held, current_sound, Count, counted, words, stored}

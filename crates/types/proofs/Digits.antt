@@ -1,7 +1,7 @@
 -- Loops over bytes: the number held so far is that of the last bytes, each turn takes in the byte in front; the largest number
 -- of i bytes grows by a byte each turn.
 use Prim.Native.Nat.{ℕ, zero, suc, ◌+◌, ◌-◌, ◌*◌, ◌^◌, ◌<◌, ◌≤◌, min}
-use mathlib.Core.Path.{◌≡◌, refl, sym, ap, ◌∙◌}
+use mathlib.Core.Path.{◌≡◌, ap, ◌∙◌}
 use mathlib.Core.List.{List, [], ◌∷◌}
 use native.Mathlib.Omega.{arith}
 use native.Mathlib.Nat.{pow-suc, pow-le-pow_right, zero-min, min-zero, suc-min-suc}

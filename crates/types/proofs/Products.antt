@@ -1,5 +1,5 @@
 -- A product fits a word exactly where a factor is at most the largest word divided by the other.
-use Prim.Native.Nat.{ℕ, suc, ◌*◌, ◌/◌, ◌^◌, ◌<◌, ◌≤◌}
+use Prim.Native.Nat.{ℕ, ◌*◌, ◌/◌, ◌^◌, ◌<◌, ◌≤◌}
 use native.Mathlib.Omega.{arith}
 use native.Mathlib.Nat.{le-div_iff_mul-le}
 use native.Mathlib.Decide.{dec_lt}

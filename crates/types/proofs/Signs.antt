@@ -1,5 +1,5 @@
 -- What `-(d + 1) as u64` is at a negative d, and `d as u64` at another.
-use Prim.Native.Nat.{ℕ, zero, suc, ◌+◌, ◌<◌, ◌^◌}
+use Prim.Native.Nat.{ℕ, zero, suc, ◌<◌, ◌^◌}
 use mathlib.Core.Path.{◌≡◌, refl, sym, ap, ◌∙◌, subst}
 use mathlib.Core.Bool.{true, false}
 use native.Mathlib.Omega.{arith}

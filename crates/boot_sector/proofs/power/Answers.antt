@@ -1,5 +1,4 @@
 -- A one shifted by at most 12 places loses no bit.
-use borrow.Author.Rules.{rules}
 use mathlib.Core.Path.{refl}
 use lib.Pow.{pow-lt, pow_mono}
 use native.Mathlib.Nat.{one-mul, mod-eq_of_lt}

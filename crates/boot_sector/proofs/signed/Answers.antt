@@ -1,5 +1,4 @@
 -- Below 128 the byte itself; from there on -(255 - byte) - 1, which is the byte less 256 (Sign).
-use borrow.Author.Rules.{rules}
 use mir.ValLaws.{to_z_pos}
 use mir.Syntax.{w8}
 use Prim.Native.Nat.{◌-◌}

@@ -1,7 +1,6 @@
 -- What the call promises, told in words.
 use mathlib.Core.Path.{ap, ◌∙◌}
 use lib.IntN.{ℤ, pos, ◌+ℤ◌}
-use borrow.Author.Rules.{rules}
 use mir.Syntax.{w64}
 use mir.ValLaws.{to_z-of_z}
 use Rattle.format.specs.Number.{within_ℤ}

@@ -1,6 +1,5 @@
 -- What the call promises, told in words.
 use mathlib.Core.Path.{ap, ◌∙◌}
-use borrow.Author.Rules.{rules}
 use Rattle.capi.specs.Words.{fits, answered, written, tell_word}
 use Rattle.capi.proofs.archthimble_lcn_position.Goals as goal
 

@@ -1,6 +1,5 @@
 -- What the call promises, told in words.
 use mathlib.Core.Path.{ap, ◌∙◌}
-use borrow.Author.Rules.{rules}
 use Rattle.capi.specs.Words.{fits, answered, written, tell_step}
 use Rattle.capi.proofs.archthimble_next_run.Goals as goal
 

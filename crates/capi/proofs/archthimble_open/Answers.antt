@@ -1,11 +1,9 @@
 -- The stores' lengths are tested first (Fit); then what the call on the reader promises, told in words.
 use mathlib.Core.Path.{refl, ap, ◌∙◌}
 use lib.Seq.{sets}
-use Rattle.format.specs.Calls.{Held}
 use Rattle.format.specs.Pick.{yes_in, no_is}
 use Rattle.capi.specs.Words.{Told, tell_held, reader_left}
 use Rattle.capi.proofs.Fit.{both_long, unfit, fit}
-use borrow.Author.Rules.{rules}
 use Rattle.std.proofs.Common.{not}
 use Rattle.capi.proofs.archthimble_open.Goals as goal
 

@@ -6,7 +6,6 @@ use Rattle.format.specs.Listed.{Answer}
 use Rattle.format.specs.Pick.{yes_in, no_is}
 use Rattle.capi.specs.Words.{Told, tell_count, reader_left}
 use Rattle.capi.proofs.Fit.{both_long, unfit, fit}
-use borrow.Author.Rules.{rules}
 use Rattle.std.proofs.Common.{not}
 use Rattle.capi.proofs.archthimble_read.Goals as goal
 

@@ -2,13 +2,12 @@
 use mathlib.Core.Path.{refl, ap, ◌∙◌}
 use lib.IntN.{pos}
 use lib.Seq.{sets}
-use Rattle.format.specs.Calls.{Held, seeking, held}
+use Rattle.format.specs.Calls.{Held, seeking}
 use Rattle.format.specs.Reader.{From}
 use Rattle.format.specs.Pick.{yes_in, no_is}
 use Rattle.non_resident.specs.Shown.{shown_from}
 use Rattle.capi.specs.Words.{Told, tell_held, reader_left, held_of}
 use Rattle.capi.proofs.Fit.{both_long, unfit, fit}
-use borrow.Author.Rules.{rules}
 use Rattle.std.proofs.Common.{not}
 use Rattle.capi.proofs.archthimble_seek.Goals as goal
 

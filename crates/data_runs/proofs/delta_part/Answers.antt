@@ -1,5 +1,4 @@
 -- The two tests in their order, then what the delta makes of the run.
-use borrow.Author.Rules.{rules}
 use Rattle.format.specs.Runs.{delta_part}
 use Rattle.format.specs.Pick.{yes_is, no_is}
 use borrow.Author.Tests.{lt-ltb, le-ltb}

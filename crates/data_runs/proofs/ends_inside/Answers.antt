@@ -1,5 +1,4 @@
 -- A sum that fits, by a difference (ends_same).
-use borrow.Author.Rules.{rules}
 use native.Mathlib.Omega.{arith}
 use Rattle.format.proofs.Runs.{ends_same}
 use Rattle.data_runs.proofs.ends_inside.Goals as goal

@@ -1,10 +1,7 @@
 -- Each turn copies one byte more into the zeros (Gather).
-use borrow.Author.Rules.{rules}
 use Rattle.data_runs.proofs.Gather.{scratch_none, scratch_more}
-use Rattle.data_runs.specs.Scratch.{scratch}
 use native.Mathlib.Omega.{arith}
 use mathlib.Core.Path.{◌≡◌, ◌∙◌}
-use Prim.Native.Nat.{◌-◌, ◌≤◌}
 use Rattle.data_runs.proofs.gathered.Goals as goal
 
 pub loop-i-init : goal.loop-i-init

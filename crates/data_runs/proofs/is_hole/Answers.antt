@@ -1,5 +1,4 @@
 -- Each arm knows the delta's direction; the tests are the rule's.
-use borrow.Author.Rules.{rules}
 use mathlib.Core.Path.{refl}
 use borrow.Author.Tests.{eq-eqb, ne_eqb}
 use Rattle.format.specs.Pick.{yes_is, no_is}

@@ -1,5 +1,4 @@
 -- Eight bytes, the last first; each step stays inside a word because what is held so far has one byte less.
-use borrow.Author.Rules.{rules}
 use Rattle.data_runs.proofs.Gather.{little_eight}
 use native.Mathlib.Omega.{arith}
 use Rattle.data_runs.proofs.number.Goals as goal

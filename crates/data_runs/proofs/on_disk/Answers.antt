@@ -1,5 +1,4 @@
 -- The position's answer and the end's test are the definition's.
-use borrow.Author.Rules.{rules}
 use mathlib.Core.Path.{refl}
 use Rattle.format.specs.Pick.{yes_is, no_is}
 use Rattle.data_runs.proofs.on_disk.Goals as goal

@@ -1,5 +1,4 @@
 -- The moved LCN's answer decides 17; then the hole rule.
-use borrow.Author.Rules.{rules}
 use Rattle.format.specs.Pick.{yes_is, no_is}
 use Rattle.data_runs.proofs.placed.Goals as goal
 

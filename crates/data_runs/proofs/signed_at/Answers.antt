@@ -1,5 +1,4 @@
 -- The definition's two's complement of the same number, by the callee's promise.
-use borrow.Author.Rules.{rules}
 use mathlib.Core.Path.{◌∙◌, ap}
 use Rattle.format.specs.Number.{signed, twos}
 use Rattle.data_runs.proofs.signed_at.Goals as goal

@@ -1,5 +1,4 @@
 -- The zeros behind the bytes add nothing to the number (Gather).
-use borrow.Author.Rules.{rules}
 use Rattle.data_runs.proofs.Gather.{scratch_little}
 use Rattle.format.specs.Number.{little}
 use mathlib.Core.Path.{ap, ◌∙◌}

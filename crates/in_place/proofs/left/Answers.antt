@@ -1,5 +1,4 @@
 -- The new reader, or the old one: each arm as the definition has it.
-use borrow.Author.Rules.{rules}
 use Rattle.in_place.proofs.left.Goals as goal
 
 pub returns-in-At : goal.returns-in-At

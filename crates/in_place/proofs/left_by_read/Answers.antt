@@ -2,7 +2,6 @@
 use mathlib.Core.Path.{ap, ◌∙◌}
 use Rattle.format.specs.Calls.{leaves}
 use Rattle.non_resident.specs.Shown.{seen}
-use borrow.Author.Rules.{rules}
 use Rattle.in_place.proofs.left_by_read.Goals as goal
 
 pub returns : goal.returns

@@ -1,5 +1,4 @@
 -- An answer of a read, less its counts: each arm as the definition has it.
-use borrow.Author.Rules.{rules}
 use Rattle.in_place.proofs.reached.Goals as goal
 
 pub returns-in-Given : goal.returns-in-Given

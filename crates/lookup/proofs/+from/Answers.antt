@@ -1,5 +1,5 @@
 -- What a step says decides one rule of the lookup (Listed); the bytes left of the list fall at each call.
-use Rattle.std.proofs.Common.{rules, arith, ◌-◌, ◌<◌, sym, ap, ◌∙◌, lt-ltb, le-ltb, length}
+use Rattle.std.proofs.Common.{arith, sym, ap, ◌∙◌, lt-ltb, le-ltb}
 use Rattle.format.specs.Pick.{pick_yes, pick_no}
 use Rattle.format.proofs.Runs.{found_inside, inside_less, lawful}
 use Rattle.format.proofs.Listed.{lookup_over, lookup_found, lookup_faulty}

@@ -1,8 +1,6 @@
 -- 21, then 22, then the list from its start; a sound cluster size isn't 0, so the list is lawful.
-use borrow.Author.Rules.{rules}
 use mathlib.Core.Path.{sym, ◌∙◌}
 use native.Mathlib.Omega.{arith}
-use borrow.Author.Tests.{not-false}
 use Rattle.format.proofs.Powers.{sound_bounds}
 use Rattle.format.specs.Pick.{yes_is, no_is}
 use Rattle.format.specs.Listed.{looked_up}

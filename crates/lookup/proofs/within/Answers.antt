@@ -1,5 +1,4 @@
 -- An offset from a disk place on fits, by the demand.
-use borrow.Author.Rules.{rules}
 use Rattle.format.specs.Listed.{byte}
 use Rattle.lookup.proofs.within.Goals as goal
 

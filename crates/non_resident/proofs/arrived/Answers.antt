@@ -1,5 +1,4 @@
 -- By cases of where going forward ended.
-use borrow.Author.Rules.{rules}
 use Rattle.non_resident.proofs.arrived.Goals as goal
 
 pub returns-in-At : goal.returns-in-At

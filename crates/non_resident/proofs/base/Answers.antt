@@ -1,5 +1,4 @@
 -- By cases of where from.
-use borrow.Author.Rules.{rules}
 use Rattle.format.specs.Reader.{base}
 use Rattle.non_resident.proofs.base.Goals as goal
 

@@ -1,5 +1,4 @@
 -- Each return follows the tests that led there; without a run the test is the definition.
-use borrow.Author.Rules.{rules}
 use borrow.Author.Tests.{lt-ltb, le-ltb}
 use Rattle.format.specs.Calls.{current_sound}
 use Rattle.format.specs.Pick.{yes_is, no_is}

@@ -1,5 +1,4 @@
 -- Inside what is left the displacement moves; otherwise it settles behind what is left.
-use borrow.Author.Rules.{rules}
 use borrow.Author.Tests.{lt-ltb, le-ltb}
 use Rattle.format.specs.Pick.{yes_is, no_is}
 use Rattle.format.specs.Reader.{forward}

@@ -1,6 +1,5 @@
 -- The place of the displacement in the run, which fits since the run is sound.
 use mathlib.Core.Path.{ap, sym, ◌∙◌}
-use borrow.Author.Rules.{rules}
 use Rattle.format.specs.Calls.{current_sound}
 use Rattle.format.specs.Reader.{here}
 use Rattle.data_runs.specs.Shown.{shown_run}

@@ -1,5 +1,4 @@
 -- A displacement inside the run fits behind its place, by the demand.
-use borrow.Author.Rules.{rules}
 use Rattle.format.specs.Reader.{further}
 use Rattle.non_resident.proofs.place_at.Goals as goal
 

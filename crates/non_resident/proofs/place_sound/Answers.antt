@@ -1,5 +1,4 @@
 -- By cases: rule 19 for a disk place, nothing for a hole.
-use borrow.Author.Rules.{rules}
 use Rattle.format.specs.Calls.{place_sound}
 use Rattle.non_resident.proofs.place_sound.Goals as goal
 

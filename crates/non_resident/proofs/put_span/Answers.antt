@@ -2,7 +2,6 @@
 use native.Mathlib.Numerals.{add-one, add-two}
 use native.Mathlib.Omega.{arith}
 use lib.ListN.{length-set}
-use borrow.Author.Rules.{rules}
 use Rattle.non_resident.proofs.put_span.Goals as goal
 
 pub bounds-store-b-in-Disk : goal.bounds-store-b-in-Disk

@@ -1,13 +1,8 @@
 -- What is left to pass is the invariant: settling from the cursor at hand is settling from the first one. A run takes bytes of the list.
-use Prim.Native.Nat.{◌-◌}
-use mathlib.Core.Path.{◌≡◌, sym, ap, ◌∙◌}
+use mathlib.Core.Path.{sym, ap, ◌∙◌}
 use native.Mathlib.Omega.{arith}
-use lib.ListN.{length}
-use borrow.Author.Rules.{rules}
 use Rattle.format.proofs.Reader.{settle_over, settle_in, settle_on, settle_faulty}
 use Rattle.format.proofs.Runs.{lawful}
-use Rattle.format.specs.Reader.{settle}
-use Rattle.format.specs.Listed.{run_list, listed}
 use Rattle.data_runs.specs.Shown.{shown}
 use Rattle.non_resident.proofs.settle.Goals as goal
 

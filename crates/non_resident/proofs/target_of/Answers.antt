@@ -1,7 +1,6 @@
 -- Both kinds of number are a delta; an i64 is the number that it stands for.
 use mathlib.Core.Path.{ap, ◌∙◌}
 use lib.IntN.{ℤ, pos, ◌+ℤ◌}
-use borrow.Author.Rules.{rules}
 use mir.Syntax.{w64}
 use mir.ValLaws.{to_z-of_z}
 use Rattle.format.specs.Number.{within_ℤ}

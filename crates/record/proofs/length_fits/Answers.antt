@@ -1,5 +1,4 @@
 -- The callee's promise at the record's limits.
-use borrow.Author.Rules.{rules}
 use Rattle.format.specs.Record.{length_fits}
 use Rattle.record.proofs.length_fits.Goals as goal
 

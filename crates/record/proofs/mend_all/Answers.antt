@@ -2,12 +2,11 @@
 use borrow.Author.Rules.{rules}
 use Rattle.record.specs.Shown.{of_sector}
 use Rattle.format.proofs.Record.{sectors_none, sectors_more, sectors_torn}
-use Rattle.format.specs.Record.{sectors, mismatch}
+use Rattle.format.specs.Record.{mismatch}
 use native.Mathlib.Nat.{sub-zero}
 use native.Mathlib.Omega.{arith}
-use lib.ListN.{length}
-use mathlib.Core.Path.{◌≡◌, refl, sym, ap, ◌∙◌}
-use Prim.Native.Nat.{◌+◌, ◌-◌, ◌≤◌}
+use mathlib.Core.Path.{refl, sym, ap, ◌∙◌}
+use Prim.Native.Nat.{◌+◌, ◌-◌}
 use Rattle.record.proofs.mend_all.Goals as goal
 
 pub loop-k-init : goal.loop-k-init

@@ -1,13 +1,8 @@
 -- What is left of the definition's sectors on the record as it stands is all of them on the record as lent.
-use borrow.Author.Rules.{rules}
-use Rattle.record.specs.Shown.{of_sector}
-use Rattle.format.proofs.Record.{sectors_none, sectors_more, sectors_torn}
-use Rattle.format.specs.Record.{sectors, mismatch}
-use native.Mathlib.Nat.{sub-zero}
-use native.Mathlib.Omega.{arith}
+use Rattle.format.specs.Record.{sectors}
 use lib.ListN.{length}
-use mathlib.Core.Path.{◌≡◌, refl, sym, ap, ◌∙◌}
-use Prim.Native.Nat.{◌+◌, ◌-◌, ◌≤◌}
+use mathlib.Core.Path.{◌≡◌}
+use Prim.Native.Nat.{◌-◌, ◌≤◌}
 use Rattle.record.proofs.mend_all.Given as goal
 
 abbrev pub invariant-loop-k : goal.invariant-loop-k

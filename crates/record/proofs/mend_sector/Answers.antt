@@ -1,5 +1,4 @@
 -- The two comparisons are the definition's test; the entry is read whole before the end is written.
-use borrow.Author.Rules.{rules}
 use lib.ListN.{length-set}
 use native.Mathlib.Omega.{arith}
 use mathlib.Core.Path.{refl}

@@ -1,5 +1,4 @@
 -- The definition's two tests in their order; without a count there are no sectors to reach past.
-use borrow.Author.Rules.{rules}
 use Prim.Native.Nat.{◌*◌, ◌-◌}
 use native.Mathlib.Omega.{arith}
 use mathlib.Core.Path.{refl, sym}

@@ -1,8 +1,7 @@
 -- Each return follows the definition's tests; what the tests leave is what the sectors need (fits-bounds, reaches-not).
-use borrow.Author.Rules.{rules}
 use native.Mathlib.Omega.{arith}
 use mathlib.Core.Path.{sym, ◌∙◌}
-use borrow.Author.Tests.{lt-ltb, le-ltb, eq-eqb, ne_eqb, not-false}
+use borrow.Author.Tests.{lt-ltb, le-ltb, eq-eqb, ne_eqb}
 use Rattle.format.proofs.Record.{fits_bounds, reaches_not}
 use Rattle.format.specs.Pick.{yes_is, no_is}
 use Rattle.format.specs.Record.{repair}

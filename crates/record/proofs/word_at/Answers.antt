@@ -1,5 +1,4 @@
 -- Two bytes are the first and 256 times the second.
-use borrow.Author.Rules.{rules}
 use native.Mathlib.Omega.{arith}
 use Rattle.format.proofs.Numbers.{unsigned_two}
 use Rattle.record.proofs.word_at.Goals as goal

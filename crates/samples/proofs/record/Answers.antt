@@ -1,5 +1,4 @@
 -- The stores are the definition's changes, one by one.
-use borrow.Author.Rules.{rules}
 use mathlib.Core.Path.{refl}
 use Rattle.format.specs.Sample.{changed}
 use Rattle.format.specs.RecordCases.{record_sample}

@@ -1,5 +1,4 @@
 -- The top bit is set exactly where the number is over half the largest of n bytes; past eight bytes it never is.
-use borrow.Author.Rules.{rules}
 use Prim.Native.Nat.{◌*◌, ◌^◌, ◌≤◌}
 use borrow.Author.Tests.{lt-ltb}
 use native.Mathlib.Nat.{pow-le-pow_right}

@@ -1,8 +1,7 @@
 -- The largest number of i bytes grows by a byte each turn (Digits).
-use Prim.Native.Nat.{◌-◌}
 use mathlib.Core.Path.{refl}
 use native.Mathlib.Omega.{arith}
-use Rattle.types.proofs.Digits.{Most, most_room, most_more, most_all}
+use Rattle.types.proofs.Digits.{most_room, most_more, most_all}
 use Rattle.types.proofs.largest.Goals as goal
 
 pub loop-i-init : goal.loop-i-init

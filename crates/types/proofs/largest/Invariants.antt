@@ -1,8 +1,6 @@
 -- The largest number of i bytes grows by a byte each turn (Digits).
 use Prim.Native.Nat.{◌-◌}
-use mathlib.Core.Path.{refl}
-use native.Mathlib.Omega.{arith}
-use Rattle.types.proofs.Digits.{Most, most_room, most_more, most_all}
+use Rattle.types.proofs.Digits.{Most}
 use Rattle.types.proofs.largest.Given as goal
 
 abbrev pub invariant-loop-i : goal.invariant-loop-i

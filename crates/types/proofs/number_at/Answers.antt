@@ -1,9 +1,7 @@
 -- From the last byte to the first: what is held is the number of the bytes passed (Digits).
-use borrow.Author.Rules.{rules}
-use Prim.Native.Nat.{◌-◌}
 use mathlib.Core.Path.{◌∙◌}
 use native.Mathlib.Omega.{arith}
-use Rattle.types.proofs.Digits.{Held, held_none, held_room, held_more, held_all, reach_all}
+use Rattle.types.proofs.Digits.{held_none, held_room, held_more, held_all, reach_all}
 use Rattle.types.proofs.number_at.Goals as goal
 
 pub loop-i-init : goal.loop-i-init

@@ -1,8 +1,6 @@
 -- The two callees' answers are the definition's two tests.
-use borrow.Author.Rules.{rules}
 use Rattle.format.specs.Pick.{yes_in, no_is}
 use Rattle.format.specs.Number.{power_between}
-use borrow.Author.Tests.{not-true, not-false}
 use mathlib.Core.Path.{refl}
 use Rattle.types.proofs.power_between.Goals as goal
 

@@ -1,12 +1,11 @@
 -- Each turn passes one power that the number is not, so what is left of the definition's search decides.
-use borrow.Author.Rules.{rules}
 use Rattle.format.proofs.Powers.{power_next, power_now, power_over}
-use Rattle.format.specs.Number.{is_power, power_of_two}
+use Rattle.format.specs.Number.{power_of_two}
 use lib.Pow.{pow-lt}
 use native.Mathlib.Nat.{one-mul, mod-eq_of_lt}
 use native.Mathlib.Omega.{arith}
 use mathlib.Core.Path.{◌≡◌, refl, sym, ◌∙◌}
-use Prim.Native.Nat.{ℕ, ◌+◌, ◌-◌, ◌*◌, ◌%◌, ◌^◌, ◌<◌, ◌≤◌}
+use Prim.Native.Nat.{ℕ, ◌+◌, ◌-◌, ◌*◌, ◌%◌, ◌^◌, ◌<◌}
 use Rattle.types.proofs.power_of_two.Goals as goal
 
 shifted : (k : ℕ) → k < 64 → 1 * 2 ^ k % 18446744073709551616 ≡ 2 ^ k

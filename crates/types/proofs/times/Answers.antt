@@ -1,5 +1,4 @@
 -- The product fits exactly where one factor is at most the largest word divided by the other (Products).
-use borrow.Author.Rules.{rules}
 use native.Mathlib.Omega.{arith}
 use native.Mathlib.Nat.{mul-zero}
 use Rattle.types.proofs.Products.{fits_of_le, over_of_lt}

@@ -1,5 +1,4 @@
 -- The tests in their order; with the number of sectors the callee's promise takes over.
-use borrow.Author.Rules.{rules}
 use native.Mathlib.Omega.{arith}
 use borrow.Author.Tests.{lt-ltb, le-ltb}
 use Rattle.format.specs.Pick.{yes_is, no_is}

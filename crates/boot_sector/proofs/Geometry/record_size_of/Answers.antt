@@ -1,5 +1,4 @@
 -- One arm for each sign; below 0 the exponent is one more than the delta's size.
-use borrow.Author.Rules.{rules}
 use Rattle.format.proofs.Powers.{between_above}
 use Prim.Native.Nat.{suc}
 use native.Mathlib.Numerals.{add-one}

@@ -1,5 +1,4 @@
 -- The definition's tests in their order; an exponent in range is at most 12.
-use borrow.Author.Rules.{rules}
 use Rattle.format.specs.Number.Word.{word}
 use native.Mathlib.Omega.{arith}
 use mathlib.Core.Path.{refl, sym, ap, ◌∙◌}

@@ -1,5 +1,4 @@
 -- Each field is the number read there (Fields), and the record size rule decides between 7 and the geometry.
-use borrow.Author.Rules.{rules}
 use Rattle.boot_sector.proofs.Sign.{read_back}
 use mathlib.Core.Path.{◌≡◌, ap, ◌∙◌}
 use mathlib.Core.List.{[], ◌∷◌}

@@ -1,8 +1,6 @@
 -- The sector size that passed 4 is at most 4,096, so the product fits; then the tests in their order.
-use borrow.Author.Rules.{rules}
 use mathlib.Core.Path.{sym, ◌∙◌}
 use native.Mathlib.Omega.{arith}
-use borrow.Author.Tests.{not-false}
 use Rattle.format.specs.Pick.{yes_is, no_is}
 use Rattle.format.proofs.Powers.{power_between_bounds}
 use Rattle.boot_sector.proofs.Fields.{field, product_small}

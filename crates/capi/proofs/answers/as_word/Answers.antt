@@ -1,5 +1,4 @@
 -- A number as it stands, or its distance from the top of a word.
-use borrow.Author.Rules.{rules}
 use Rattle.capi.proofs.answers.as_word.Goals as goal
 
 pub returns-in-Down : goal.returns-in-Down

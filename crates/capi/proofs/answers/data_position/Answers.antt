@@ -1,5 +1,4 @@
 -- By cases of the answer.
-use borrow.Author.Rules.{rules}
 use Rattle.capi.proofs.answers.data_position.Goals as goal
 
 pub returns-in-At : goal.returns-in-At

@@ -2,7 +2,6 @@
 use mathlib.Core.List.{[], ◌∷◌}
 use mathlib.Core.Path.{ap, ◌∙◌}
 use lib.IntN.{ℤ}
-use borrow.Author.Rules.{rules}
 use mir.Syntax.{w8}
 use mir.ValLaws.{to_z-of_z}
 use Rattle.capi.specs.Words.{bits, accepted}

@@ -3,7 +3,6 @@ use Prim.Native.Nat.{ℕ}
 use mathlib.Core.List.{List, [], ◌∷◌}
 use mathlib.Core.Path.{◌≡◌, sym, ap, ◌∙◌}
 use lib.IntN.{ℤ}
-use borrow.Author.Rules.{rules}
 use Rattle.refusal.specs.Refusals.{shown_values}
 use Rattle.types.specs.Shown.{to_ℤ}
 use Rattle.capi.specs.Words.{refusal}

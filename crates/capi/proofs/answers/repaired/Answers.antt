@@ -1,5 +1,4 @@
 -- By cases of the answer.
-use borrow.Author.Rules.{rules}
 use Rattle.capi.proofs.answers.repaired.Goals as goal
 
 pub returns-in-Done : goal.returns-in-Done

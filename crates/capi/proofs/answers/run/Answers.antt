@@ -1,5 +1,4 @@
 -- By cases of the answer.
-use borrow.Author.Rules.{rules}
 use Rattle.capi.proofs.answers.run.Goals as goal
 
 pub returns-in-Run : goal.returns-in-Run

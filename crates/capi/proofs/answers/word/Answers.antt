@@ -1,5 +1,4 @@
 -- By cases of the answer.
-use borrow.Author.Rules.{rules}
 use Rattle.capi.proofs.answers.word.Goals as goal
 
 pub returns-in-Is : goal.returns-in-Is

@@ -1,5 +1,4 @@
 -- By cases of the answer: the reader's words, or the words as they were.
-use borrow.Author.Rules.{rules}
 use Rattle.capi.proofs.reader.keep.Goals as goal
 
 pub returns-in-At : goal.returns-in-At

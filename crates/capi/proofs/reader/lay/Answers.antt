@@ -1,5 +1,4 @@
 -- Four runs of four words are the sixteen.
-use borrow.Author.Rules.{rules}
 use Rattle.capi.proofs.reader.lay.Goals as goal
 
 pub returns : goal.returns

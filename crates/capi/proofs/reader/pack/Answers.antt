@@ -1,5 +1,4 @@
 -- Each arm names the three words of its current run.
-use borrow.Author.Rules.{rules}
 use Rattle.capi.proofs.reader.pack.Goals as goal
 
 pub returns-in-Nothing : goal.returns-in-Nothing

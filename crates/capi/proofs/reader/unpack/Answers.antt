@@ -1,5 +1,4 @@
 -- Nine words, each where the definition reads it.
-use borrow.Author.Rules.{rules}
 use Rattle.capi.specs.Words.{held_of}
 use Rattle.capi.proofs.reader.unpack.Goals as goal
 

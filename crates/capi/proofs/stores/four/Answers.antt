@@ -2,7 +2,6 @@
 use native.Mathlib.Numerals.{add-three, add-one, add-two}
 use native.Mathlib.Omega.{arith}
 use lib.ListN.{length-set}
-use borrow.Author.Rules.{rules}
 use Rattle.capi.proofs.stores.four.Goals as goal
 
 pub bounds-store-at-2 : goal.bounds-store-at-2

@@ -1,6 +1,5 @@
 -- Two runs of four words are one of eight.
 use mathlib.Core.Path.{refl}
-use borrow.Author.Rules.{rules}
 use Rattle.capi.proofs.stores.put.Goals as goal
 
 pub returns : goal.returns

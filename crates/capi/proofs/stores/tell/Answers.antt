@@ -1,7 +1,6 @@
 -- The one test of the length.
 use mathlib.Core.Path.{refl, ap}
 use mathlib.Core.Bool.{not}
-use borrow.Author.Rules.{rules}
 use borrow.Author.Tests.{lt-ltb, le-ltb}
 use Rattle.format.specs.Pick.{no_is, yes_in}
 use Rattle.capi.proofs.stores.tell.Goals as goal

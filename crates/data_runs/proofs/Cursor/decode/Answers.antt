@@ -1,5 +1,4 @@
 -- Each return follows the definition's tests; the size's answer decides 16.
-use borrow.Author.Rules.{rules}
 use Rattle.format.specs.Runs.{step, count_part}
 use Rattle.format.specs.Pick.{yes_is, no_is}
 use borrow.Author.Tests.{lt-ltb, le-ltb, le-leb, lt-leb, eq-eqb, ne_eqb}

@@ -1,5 +1,4 @@
 -- The two tests of 21, then the callee's promise.
-use borrow.Author.Rules.{rules}
 use Rattle.format.specs.Pick.{yes_is, no_is}
 use Rattle.format.specs.Runs.{next}
 use borrow.Author.Tests.{lt-ltb, le-ltb}

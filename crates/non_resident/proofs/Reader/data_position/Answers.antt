@@ -1,9 +1,6 @@
 -- 21, then the place of the displacement.
 use mathlib.Core.Path.{sym, ◌∙◌}
-use borrow.Author.Rules.{rules}
-use Rattle.format.proofs.Sound.{not-true}
 use Rattle.format.specs.Calls.{sound, standing}
-use Rattle.format.specs.Reader.{here}
 use Rattle.format.specs.Pick.{yes_is, no_is, pick_true}
 use Rattle.std.proofs.Common.{ap}
 use Rattle.std.proofs.Common.{not}

@@ -1,7 +1,6 @@
 -- Each arm of the decoder's answer is a case of the definition; a run that was found is sound to enter.
 use mathlib.Core.Path.{ap, sym, refl, ◌∙◌}
 use native.Mathlib.Omega.{arith}
-use borrow.Author.Rules.{rules}
 use Rattle.format.proofs.Sound.{fits_sound}
 use Rattle.format.proofs.Runs.{found_inside}
 use Rattle.format.specs.Reader.Current.{some}

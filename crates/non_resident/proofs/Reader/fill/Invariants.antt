@@ -1,17 +1,10 @@
 -- The invariant is Laid (Laws): the spans so far and what is left of the read. Each way out is one of its ends.
-use Prim.Native.Nat.{ℕ, ◌-◌, ◌/◌}
-use mathlib.Core.List.{List}
-use mathlib.Core.Path.{◌≡◌, refl, sym, ap, ◌∙◌}
-use native.Mathlib.Omega.{arith}
+use Prim.Native.Nat.{◌-◌, ◌/◌}
+use mathlib.Core.Path.{◌≡◌}
 use lib.ListN.{length}
-use borrow.Author.Rules.{rules}
-use Rattle.format.proofs.Sound.{sound_good, sound_full, fits_sound}
-use Rattle.format.specs.Reader.{turn}
 use Rattle.format.specs.Listed.{run_list}
-use Rattle.non_resident.proofs.Laws.{Laid, laid_none, laid_more, laid_stop, laid_full, laid_broken, laid_refused, laid_length, laid_short}
-use Rattle.non_resident.specs.declared.Turn.{Turn}
-use Rattle.non_resident.specs.declared.Reader.{Reader}
-use Rattle.non_resident.specs.Shown.{seen, shown_turn}
+use Rattle.non_resident.proofs.Laws.{Laid}
+use Rattle.non_resident.specs.Shown.{seen}
 use Rattle.non_resident.proofs.Reader.fill.Given as goal
 
 abbrev pub invariant-loop-k : goal.invariant-loop-k

@@ -1,6 +1,5 @@
 -- The least of the three remainders, put together from the callees' promises.
 use mathlib.Core.Path.{refl}
-use borrow.Author.Rules.{rules}
 use Rattle.format.specs.Reader.{give}
 use Rattle.non_resident.proofs.Reader.give.Goals as goal
 

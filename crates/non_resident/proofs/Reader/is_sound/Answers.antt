@@ -1,5 +1,4 @@
 -- The two tests in the definition's order.
-use borrow.Author.Rules.{rules}
 use Rattle.format.specs.Calls.{sound}
 use Rattle.format.specs.Pick.{yes_is, no_is}
 use Rattle.std.proofs.Common.{ap}

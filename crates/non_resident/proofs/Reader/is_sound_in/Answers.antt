@@ -1,5 +1,4 @@
 -- The cursor's test, then the rest.
-use borrow.Author.Rules.{rules}
 use borrow.Author.Tests.{lt-ltb, le-ltb}
 use Rattle.format.specs.Calls.{sound_in}
 use Rattle.format.specs.Pick.{yes_is, no_is}

@@ -1,8 +1,6 @@
 -- Going forward by 0 from the start, after 21.
 use mathlib.Core.Path.{ap, sym, ◌∙◌}
 use native.Mathlib.Omega.{arith}
-use borrow.Author.Rules.{rules}
-use Rattle.format.proofs.Sound.{not-true}
 use Rattle.format.proofs.Powers.{sound_bounds}
 use Rattle.format.specs.Listed.{run_list}
 use Rattle.format.specs.Calls.{hold, opening}

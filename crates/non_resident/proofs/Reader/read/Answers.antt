@@ -3,8 +3,6 @@ use Prim.Native.Nat.{◌/◌}
 use mathlib.Core.List.{[]}
 use mathlib.Core.Path.{◌≡◌, refl, ap, sym, ◌∙◌}
 use lib.ListN.{length}
-use borrow.Author.Rules.{rules}
-use Rattle.format.proofs.Sound.{not-true}
 use Rattle.format.specs.Calls.{reading, counted, stored}
 use Rattle.format.specs.Reader.{Reading, read}
 use Rattle.format.specs.Listed.Answer.{refused}

@@ -1,12 +1,11 @@
 -- 21, then what the target's number says: 20, or a seek to it.
 use mathlib.Core.Path.{ap, sym, ◌∙◌}
-use lib.IntN.{ℤ, pos, ◌+ℤ◌}
-use borrow.Author.Rules.{rules}
+use lib.IntN.{pos, ◌+ℤ◌}
 use Rattle.format.specs.Calls.{hold, seeking}
-use Rattle.format.specs.Reader.{in_range, seek_to, base, target, seek}
+use Rattle.format.specs.Reader.{in_range, seek_to, target, seek}
 use Rattle.format.specs.Listed.{then, run_list}
 use Rattle.format.specs.Number.{Word, within_ℤ}
-use Rattle.format.proofs.Sound.{not-true, sound_full}
+use Rattle.format.proofs.Sound.{sound_full}
 use Rattle.format.specs.Pick.{yes_is, no_is}
 use Rattle.types.specs.Shown.{shown_word}
 use Rattle.non_resident.specs.Shown.{seen, amount_of}

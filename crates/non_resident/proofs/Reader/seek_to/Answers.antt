@@ -1,7 +1,6 @@
 -- The three choices of the definition, each with what the callee gives.
 use Prim.Native.Nat.{◌-◌}
 use mathlib.Core.Path.{refl, ap, ◌∙◌}
-use borrow.Author.Rules.{rules}
 use borrow.Author.Tests.{lt-ltb, le-ltb, eq-eqb, ne_eqb}
 use Rattle.format.specs.Listed.{run_list}
 use Rattle.format.specs.Calls.{hold}

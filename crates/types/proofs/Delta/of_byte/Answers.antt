@@ -1,5 +1,4 @@
 -- A signed byte widened keeps its value (Signs); the rest is `of`.
-use borrow.Author.Rules.{rules}
 use mathlib.Core.Path.{◌∙◌}
 use Rattle.types.proofs.Signs.{wide_fits, wide_same}
 use Rattle.types.proofs.Delta.of_byte.Goals as goal

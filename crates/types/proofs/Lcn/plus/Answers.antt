@@ -1,5 +1,4 @@
 -- The delta made of the i64 stands for it, so `moved` adds the same number.
-use borrow.Author.Rules.{rules}
 use mir.ValLaws.{to_z-of_z}
 use mir.Syntax.{w64}
 use Rattle.format.specs.Number.{within_ℤ}
