@@ -1,77 +1,81 @@
 // `archthimble boot`: a boot sector's geometry as a table, or why it is refused.
 use crate::{files, names, table, text};
 use boot_sector::{Boot, Geometry};
+use std::env::Env;
+use std::fs::Files;
+use std::io;
+use std::io::{Eprint, Read};
 use text::say;
 use types::{Delta, Lcn, Word};
 
-pub fn sample() {
-    say(b"A boot sector that is built in:\n\n");
+pub fn sample(rt: &impl Print) -> io::Result<()> {
+    say(rt, b"A boot sector that is built in:\n\n")?;
     let sector = samples::boot();
-    whole(&sector);
+    whole(rt, &sector)
 }
 
-fn whole(sector: &[u8; 512]) {
-    show(sector);
+fn whole(rt: &impl Print, sector: &[u8; 512]) -> io::Result<()> {
+    show(rt, sector)
 }
 
-pub fn file() {
-    let fd = files::open(2);
-    if fd < 0 {
-        return;
+pub fn file(rt: &(impl Print + Eprint + Env + Files)) -> io::Result<()> {
+    match files::open(rt, 2)? {
+        Some(file) => from(rt, file),
+        None => Ok(()),
     }
-    from(fd);
-    libc::close(fd);
 }
 
-fn from(fd: i32) {
+fn from(rt: &(impl Print + Eprint), mut file: impl Read + Drop) -> io::Result<()> {
     let mut sector = [0u8; 512];
-    let got = io::read_full(fd, &mut sector);
-    if got < 512 {
-        if files::failed() {
-            return;
-        }
+    match files::read_full(&mut file, &mut sector) {
+        Ok(got) => show(rt, &sector[..got]),
+        Err(e) => files::failed(rt, e),
     }
-    show(&sector[..got]);
 }
 
-fn show(sector: &[u8]) {
+fn show(rt: &impl Print, sector: &[u8]) -> io::Result<()> {
     match Geometry::read(sector) {
-        Boot::Read(g) => geometry(g),
-        Boot::Refused(x) => names::explain(x),
+        Boot::Read(g) => geometry(rt, g)?,
+        Boot::Refused(x) => names::explain(rt, x)?,
     }
+    Ok(())
 }
 
-fn geometry(g: Geometry) {
-    table::row(b"sector size     ", g.sector_size, b" bytes\n");
-    table::row(b"cluster size    ", g.cluster_size, b" bytes\n");
-    table::row(b"total sectors   ", g.total_sectors, b" sectors, ");
-    volume(g.total_sectors, g.sector_size, g.cluster_size);
-    cluster(b"MFT             ", g.mft_lcn, g.cluster_size);
-    cluster(b"MFT mirror      ", g.mirror_lcn, g.cluster_size);
-    table::row(b"file record size", g.record_size, b" bytes\n");
-    say(b"index record info    ");
-    text::signed(Delta::of_byte(g.index_info));
-    say(b" (as it stands: clusters, or minus an exponent of bytes)\nserial number        ");
-    io::print_hex(libc::STDOUT_FILENO, g.serial, 16);
-    say(b" (hex)\n");
+fn geometry(rt: &impl Print, g: Geometry) -> io::Result<()> {
+    table::row(rt, b"sector size     ", g.sector_size, b" bytes\n")?;
+    table::row(rt, b"cluster size    ", g.cluster_size, b" bytes\n")?;
+    table::row(rt, b"total sectors   ", g.total_sectors, b" sectors, ")?;
+    volume(rt, g.total_sectors, g.sector_size, g.cluster_size)?;
+    cluster(rt, b"MFT             ", g.mft_lcn, g.cluster_size)?;
+    cluster(rt, b"MFT mirror      ", g.mirror_lcn, g.cluster_size)?;
+    table::row(rt, b"file record size", g.record_size, b" bytes\n")?;
+    say(rt, b"index record info    ")?;
+    text::signed(rt, Delta::of_byte(g.index_info))?;
+    say(
+        rt,
+        b" (as it stands: clusters, or minus an exponent of bytes)\nserial number        ",
+    )?;
+    let n = g.serial;
+    print!(rt; "{n:016x}")?;
+    say(rt, b" (hex)\n")
 }
 
 // The volume's size in bytes and in clusters.
-fn volume(sectors: u64, size: u64, cluster: u64) {
+fn volume(rt: &impl Print, sectors: u64, size: u64, cluster: u64) -> io::Result<()> {
     match types::times(sectors, size) {
-        Word::Is(bytes) => table::clusters(bytes, cluster),
-        Word::Out => say(b"past 2^64 - 1 bytes"),
+        Word::Is(bytes) => table::clusters(rt, bytes, cluster)?,
+        Word::Out => say(rt, b"past 2^64 - 1 bytes")?,
     }
-    say(b"\n");
+    say(rt, b"\n")
 }
 
 // An LCN, and where its first byte lies.
-fn cluster(name: &[u8], lcn: u64, size: u64) {
-    table::row(name, lcn, b" LCN, byte ");
+fn cluster(rt: &impl Print, name: &[u8], lcn: u64, size: u64) -> io::Result<()> {
+    table::row(rt, name, lcn, b" LCN, byte ")?;
     let lcn = Lcn(lcn);
     match lcn.position(size) {
-        Word::Is(n) => text::number(n),
-        Word::Out => say(b"past 2^64 - 1"),
+        Word::Is(n) => text::number(rt, n)?,
+        Word::Out => say(rt, b"past 2^64 - 1")?,
     }
-    say(b"\n");
+    say(rt, b"\n")
 }

@@ -11,10 +11,15 @@ mod table;
 mod text;
 mod words;
 
+use std::env::Env;
+use std::fs::Files;
+use std::io;
+use std::io::Eprint;
 use text::say;
 
-fn usage() {
+fn usage(rt: &impl Print) -> io::Result<()> {
     say(
+        rt,
         b"archthimble shows what the parts of an NTFS disk say, by a proved library. It changes no file.
 
 archthimble                    a stretch of a stream, read from a run list that is built in
@@ -41,75 +46,75 @@ Behind an = sign a size is in clusters, and a place is in a cluster: 1000 bytes 
 What is refused is named by its number and a sentence; the exit status is 0 all the same, so read
 the words. Numbers are decimal, from 0 to 2^64 - 1.
 ",
-    );
+    )
 }
 
 // Whether so many words were typed; otherwise it says what to type.
-fn takes(words: usize, n: usize, example: &[u8]) -> bool {
+fn takes(rt: &impl Print, words: usize, n: usize, example: &[u8]) -> io::Result<bool> {
     if words == n {
-        return true;
+        return Ok(true);
     }
-    say(b"That takes other words. For example: archthimble ");
-    say(example);
-    say(b"\n'archthimble help' says what they mean.\n");
-    false
+    say(rt, b"That takes other words. For example: archthimble ")?;
+    say(rt, example)?;
+    say(rt, b"\n'archthimble help' says what they mean.\n")?;
+    Ok(false)
 }
 
-fn command(word: &[u8], words: usize) {
-    if check::same(word, b"boot") {
+fn command(rt: &(impl Print + Eprint + Env + Files), word: &[u8], words: usize) -> io::Result<()> {
+    if word == b"boot".as_slice() {
         if words == 2 {
-            boot::sample();
-            return;
+            boot::sample(rt)?;
+            return Ok(());
         }
-        if takes(words, 3, b"boot disk.img") {
-            boot::file();
+        if takes(rt, words, 3, b"boot disk.img")? {
+            boot::file(rt)?;
         }
-        return;
+        return Ok(());
     }
-    if check::same(word, b"record") {
-        if takes(words, 3, b"record record.bin") {
-            records::file();
+    if word == b"record".as_slice() {
+        if takes(rt, words, 3, b"record record.bin")? {
+            records::file(rt)?;
         }
-        return;
+        return Ok(());
     }
-    if check::same(word, b"runs") {
-        if takes(words, 4, b"runs '11 02 0A 00' 512") {
-            runs::typed();
+    if word == b"runs".as_slice() {
+        if takes(rt, words, 4, b"runs '11 02 0A 00' 512")? {
+            runs::typed(rt)?;
         }
-        return;
+        return Ok(());
     }
-    if check::same(word, b"spans") {
-        if takes(words, 7, b"spans '11 02 0A 00' 512 1000 0 1000") {
-            spans::typed();
+    if word == b"spans".as_slice() {
+        if takes(rt, words, 7, b"spans '11 02 0A 00' 512 1000 0 1000")? {
+            spans::typed(rt)?;
         }
-        return;
+        return Ok(());
     }
-    other(word);
+    other(rt, word)
 }
 
 fn asks_help(word: &[u8]) -> bool {
-    if check::same(word, b"--help") {
+    if word == b"--help".as_slice() {
         return true;
     }
-    check::same(word, b"help")
+    word == b"help".as_slice()
 }
 
-fn other(word: &[u8]) {
+fn other(rt: &impl Print, word: &[u8]) -> io::Result<()> {
     if !asks_help(word) {
-        say(b"archthimble does not know '");
-        say(word);
-        say(b"'. This is what there is:\n\n");
+        say(rt, b"archthimble does not know '")?;
+        say(rt, word)?;
+        say(rt, b"'. This is what there is:\n\n")?;
     }
-    usage();
+    usage(rt)
 }
 
-fn main() {
-    let words = os::arg_count();
+fn main(rt: HostRuntime) -> io::Result<()> {
+    let words = words::count(&rt);
     if words < 2 {
-        spans::sample();
-        return;
+        spans::sample(&rt)?;
+        return Ok(());
     }
-    let mut word = io::buffer();
-    let n = os::arg(1, &mut word);
-    command(&word[..n], words);
+    let mut word = [0u8; 4096];
+    let (n, _) = words::argument(&rt, 1, &mut word);
+    command(&rt, &word[..n], words)
 }

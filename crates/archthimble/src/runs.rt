@@ -2,10 +2,12 @@
 use crate::{names, table, text, words};
 use data_runs::{Cursor, Decoded, Place, Run};
 use lookup::Found;
+use std::env::Env;
+use std::io;
 use text::say;
 
 // Where the walk stands: the cursor, the bytes covered so far, and whether to go on.
-#[derive(Drop)]
+#[derive(Clone, Copy)]
 struct Walk {
     at: usize,
     lcn: u64,
@@ -13,58 +15,61 @@ struct Walk {
     more: bool,
 }
 
-pub fn typed() {
-    let mut list = io::buffer();
-    let got = words::list(&mut list);
-    let cluster = words::typed(3);
+pub fn typed(rt: &(impl Print + Env)) -> io::Result<()> {
+    let mut list = [0u8; 4096];
+    let got = words::list(rt, &mut list)?;
+    let cluster = words::typed(rt, 3)?;
     if got.good {
         if cluster.good {
-            part(&list, got.n, cluster.value);
+            part(rt, &list, got.n, cluster.value)?;
         }
     }
+    Ok(())
 }
 
-fn part(list: &[u8], n: usize, cluster: u64) {
+fn part(rt: &impl Print, list: &[u8], n: usize, cluster: u64) -> io::Result<()> {
     if n <= list.len() {
-        show(&list[..n], cluster);
+        show(rt, &list[..n], cluster)?;
     }
+    Ok(())
 }
 
-fn show(list: &[u8], cluster: u64) {
-    say(b"            header at                bytes             clusters  place\n");
+fn show(rt: &impl Print, list: &[u8], cluster: u64) -> io::Result<()> {
+    say(
+        rt,
+        b"            header at                bytes             clusters  place\n",
+    )?;
     let mut w = Walk {
         at: 0,
         lcn: 0,
         total: 0,
         more: true,
     };
-    let mut turns = list.len() + 1;
-    while 0 < turns {
-        w = onward(w, list, cluster);
-        turns = turns - 1;
+    for _ in 0..list.len() + 1 {
+        w = onward(rt, w, list, cluster)?;
     }
-    bar(list, cluster, 0, w.total);
+    bar(rt, list, cluster, 0, w.total)
 }
 
-fn onward(w: Walk, list: &[u8], cluster: u64) -> Walk {
+fn onward(rt: &impl Print, w: Walk, list: &[u8], cluster: u64) -> io::Result<Walk> {
     if !w.more {
-        return w;
+        return Ok(w);
     }
     let c = Cursor {
         at: w.at,
         lcn: w.lcn,
     };
-    match c.next(list, cluster) {
+    Ok(match c.next(list, cluster) {
         Decoded::Run(run, next) => {
-            line(w.at, run, cluster);
-            passed(w, run.size, next)
+            line(rt, w.at, run, cluster)?;
+            passed(rt, w, run.size, next)?
         }
         Decoded::Over => stopped(w),
         Decoded::Refused(x) => {
-            names::explain(x);
+            names::explain(rt, x)?;
             stopped(w)
         }
-    }
+    })
 }
 
 fn stopped(w: Walk) -> Walk {
@@ -77,38 +82,40 @@ fn stopped(w: Walk) -> Walk {
 }
 
 // Behind a run. Where the total doesn't fit 64 bits, the walk ends.
-fn passed(w: Walk, size: u64, next: Cursor) -> Walk {
+fn passed(rt: &impl Print, w: Walk, size: u64, next: Cursor) -> io::Result<Walk> {
     let total = w.total;
     if total <= 0xffff_ffff_ffff_ffff - size {
-        return Walk {
+        return Ok(Walk {
             at: next.at,
             lcn: next.lcn,
             total: total + size,
             more: true,
-        };
+        });
     }
     say(
+        rt,
         b"With this run they cover more than 2^64 - 1 bytes: it ends here, and the bar before it.\n",
-    );
-    stopped(w)
+    )?;
+    Ok(stopped(w))
 }
 
 // Every size of a run is a whole number of clusters.
-fn line(at: usize, run: Run, cluster: u64) {
-    table::aligned(at as u64);
-    table::aligned(run.size);
+fn line(rt: &impl Print, at: usize, run: Run, cluster: u64) -> io::Result<()> {
+    table::aligned(rt, at as u64)?;
+    table::aligned(rt, run.size)?;
     if 0 < cluster {
-        table::aligned(run.size / cluster);
+        table::aligned(rt, run.size / cluster)?;
     }
     let p = run.place;
     match p {
-        Place::Disk(place) => table::on_disk(place, cluster),
-        Place::Hole => say(b"  hole\n"),
+        Place::Disk(place) => table::on_disk(rt, place, cluster)?,
+        Place::Hole => say(rt, b"  hole\n")?,
     }
+    Ok(())
 }
 
 // Where a mark of the bar stands: a place in the stream, and sixtieths of a byte.
-#[derive(Drop)]
+#[derive(Clone, Copy)]
 struct Spot {
     offset: u64,
     part: u64,
@@ -116,45 +123,44 @@ struct Spot {
 
 // A sixtieth of the whole further on.
 fn onto(m: Spot, total: u64) -> Spot {
-    let part = std::num::wrapping_add_u64(m.part, total % 60);
-    let offset = std::num::wrapping_add_u64(m.offset, total / 60);
+    let part = m.part.wrapping_add(total % 60);
+    let offset = m.offset.wrapping_add(total / 60);
     if part < 60 {
         return Spot { offset, part };
     }
     Spot {
-        offset: std::num::wrapping_add_u64(offset, 1),
+        offset: offset.wrapping_add(1),
         part: part - 60,
     }
 }
 
 // Sixty marks from one place in the stream to another: # lies on the disk, . in a hole.
-pub fn bar(list: &[u8], cluster: u64, from: u64, to: u64) {
+pub fn bar(rt: &impl Print, list: &[u8], cluster: u64, from: u64, to: u64) -> io::Result<()> {
     if to <= from {
-        say(b"0 bytes\n");
-        return;
+        say(rt, b"0 bytes\n")?;
+        return Ok(());
     }
     let total = to - from;
-    say(b"[");
+    say(rt, b"[")?;
     let mut m = Spot {
         offset: from,
         part: 0,
     };
-    let mut left: u64 = 60;
-    while 0 < left {
-        mark(list, cluster, m.offset);
+    for _ in 0..60 {
+        mark(rt, list, cluster, m.offset)?;
         m = onto(m, total);
-        left = left - 1;
     }
-    say(b"] ");
-    table::clusters(total, cluster);
-    say(b"; # on the disk, . in a hole\n");
+    say(rt, b"] ")?;
+    table::clusters(rt, total, cluster)?;
+    say(rt, b"; # on the disk, . in a hole\n")
 }
 
-fn mark(list: &[u8], cluster: u64, offset: u64) {
+fn mark(rt: &impl Print, list: &[u8], cluster: u64, offset: u64) -> io::Result<()> {
     match lookup::lookup(list, cluster, offset) {
-        Found::Disk(_) => say(b"#"),
-        Found::Hole => say(b"."),
-        Found::NotCovered => say(b" "),
-        Found::Refused(_) => say(b" "),
+        Found::Disk(_) => say(rt, b"#")?,
+        Found::Hole => say(rt, b".")?,
+        Found::NotCovered => say(rt, b" ")?,
+        Found::Refused(_) => say(rt, b" ")?,
     }
+    Ok(())
 }

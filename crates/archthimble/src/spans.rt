@@ -1,10 +1,12 @@
 // `archthimble spans`: where a stretch of the stream lies, span by span, and a bar over it.
 use crate::{names, runs, table, text, words};
 use non_resident::{By, From, Outcome, Reader, Sought};
+use std::env::Env;
+use std::io;
 use text::say;
 
 // How far the reading has come: the reader, the bytes still wanted, and whether the last read gave any.
-#[derive(Drop)]
+#[derive(Clone, Copy)]
 struct Walk {
     reader: Reader,
     wanted: u64,
@@ -12,125 +14,146 @@ struct Walk {
 }
 
 // List B read as in case C4 of the scope of work.
-pub fn sample() {
+pub fn sample(rt: &impl Print) -> io::Result<()> {
     let list = b"\x11\x02\x0a\x11\x01\xfe\x01\x03\x11\x02\x05\x00";
     say(
+        rt,
         b"Bytes 900 to 1899 of a stream, as its run list places them ('archthimble help' says what else there is):\n\n",
-    );
-    show(list, 512, 4000, 900, 1000);
+    )?;
+    show(rt, list, 512, 4000, 900, 1000)
 }
 
-pub fn typed() {
-    let mut list = io::buffer();
-    let got = words::list(&mut list);
-    let cluster = words::typed(3);
-    let size = words::typed(4);
-    let offset = words::typed(5);
-    let length = words::typed(6);
+pub fn typed(rt: &(impl Print + Env)) -> io::Result<()> {
+    let mut list = [0u8; 4096];
+    let got = words::list(rt, &mut list)?;
+    let cluster = words::typed(rt, 3)?;
+    let size = words::typed(rt, 4)?;
+    let offset = words::typed(rt, 5)?;
+    let length = words::typed(rt, 6)?;
     if got.good {
         if words::all_good(cluster, size, offset, length) {
             part(
+                rt,
                 &list,
                 got.n,
                 cluster.value,
                 size.value,
                 offset.value,
                 length.value,
-            );
+            )?;
         }
     }
+    Ok(())
 }
 
-fn part(list: &[u8], n: usize, cluster: u64, size: u64, offset: u64, length: u64) {
+fn part(
+    rt: &impl Print,
+    list: &[u8],
+    n: usize,
+    cluster: u64,
+    size: u64,
+    offset: u64,
+    length: u64,
+) -> io::Result<()> {
     if n <= list.len() {
-        show(&list[..n], cluster, size, offset, length);
+        show(rt, &list[..n], cluster, size, offset, length)?;
     }
+    Ok(())
 }
 
-fn show(list: &[u8], cluster: u64, size: u64, offset: u64, length: u64) {
+fn show(
+    rt: &impl Print,
+    list: &[u8],
+    cluster: u64,
+    size: u64,
+    offset: u64,
+    length: u64,
+) -> io::Result<()> {
     match Reader::open(list, cluster, size) {
-        Sought::Refused(x) => names::explain(x),
+        Sought::Refused(x) => names::explain(rt, x)?,
         Sought::At(new) => match new.seek(list, From::Start, By::Unsigned(offset)) {
-            Sought::Refused(x) => names::explain(x),
-            Sought::At(r) => read(list, r, length),
+            Sought::Refused(x) => names::explain(rt, x)?,
+            Sought::At(r) => read(rt, list, r, length)?,
         },
     }
+    Ok(())
 }
 
 // Reads on until nothing more comes: no list has more runs than bytes.
-fn read(list: &[u8], r: Reader, length: u64) {
-    say(b"               offset                bytes  place\n");
+fn read(rt: &impl Print, list: &[u8], r: Reader, length: u64) -> io::Result<()> {
+    say(rt, b"               offset                bytes  place\n")?;
     let mut w = Walk {
         reader: r,
         wanted: length,
         more: true,
     };
-    let mut turns = list.len() + 1;
-    while 0 < turns {
-        w = onward(w, list);
-        turns = turns - 1;
+    for _ in 0..list.len() + 1 {
+        w = onward(rt, w, list)?;
     }
     let end = w.reader;
-    runs::bar(list, r.cluster, r.place, end.place);
-    missing(w.wanted);
+    runs::bar(rt, list, r.cluster, r.place, end.place)?;
+    missing(rt, w.wanted)
 }
 
-fn missing(bytes: u64) {
+fn missing(rt: &impl Print, bytes: u64) -> io::Result<()> {
     if 0 < bytes {
-        text::number(bytes);
-        say(b" bytes more were asked for, but the runs or the data end here.\n");
+        text::number(rt, bytes)?;
+        say(
+            rt,
+            b" bytes more were asked for, but the runs or the data end here.\n",
+        )?;
     }
+    Ok(())
 }
 
-fn onward(w: Walk, list: &[u8]) -> Walk {
+fn onward(rt: &impl Print, w: Walk, list: &[u8]) -> io::Result<Walk> {
     if !w.more {
-        return w;
+        return Ok(w);
     }
     let mut store = [0u64; 30];
-    given(w, list, &mut store)
+    Ok(given(rt, w, list, &mut store)?)
 }
 
-fn given(w: Walk, list: &[u8], store: &mut [u64]) -> Walk {
+fn given(rt: &impl Print, w: Walk, list: &[u8], store: &mut [u64]) -> io::Result<Walk> {
     let r = w.reader;
-    match r.read(list, w.wanted, store) {
+    Ok(match r.read(list, w.wanted, store) {
         Outcome::Given(g) => {
-            lines(store, g.spans, r.place, r.cluster);
+            lines(rt, store, g.spans, r.place, r.cluster)?;
             let to = g.reader;
             Walk {
                 reader: to,
-                wanted: std::num::wrapping_sub_u64(w.wanted, g.bytes),
+                wanted: w.wanted.wrapping_sub(g.bytes),
                 more: 0 < g.spans,
             }
         }
         Outcome::Refused(x) => {
-            names::explain(x);
+            names::explain(rt, x)?;
             Walk {
                 reader: r,
                 wanted: w.wanted,
                 more: false,
             }
         }
-    }
+    })
 }
 
-fn lines(store: &[u64], spans: usize, from: u64, cluster: u64) {
-    let mut k: usize = 0;
+fn lines(rt: &impl Print, store: &[u64], spans: usize, from: u64, cluster: u64) -> io::Result<()> {
     let mut offset = from;
-    while k < store.len() / 3 {
+    for k in 0..store.len() / 3 {
         if k < spans {
-            table::aligned(offset);
-            table::aligned(store[3 * k + 1]);
-            place(store[3 * k], store[3 * k + 2], cluster);
-            offset = std::num::wrapping_add_u64(offset, store[3 * k + 1]);
+            table::aligned(rt, offset)?;
+            table::aligned(rt, store[3 * k + 1])?;
+            place(rt, store[3 * k], store[3 * k + 2], cluster)?;
+            offset = offset.wrapping_add(store[3 * k + 1]);
         }
-        k = k + 1;
     }
+    Ok(())
 }
 
-fn place(position: u64, kind: u64, cluster: u64) {
+fn place(rt: &impl Print, position: u64, kind: u64, cluster: u64) -> io::Result<()> {
     if kind == 1 {
-        table::on_disk(position, cluster);
-        return;
+        table::on_disk(rt, position, cluster)?;
+        return Ok(());
     }
-    say(b"  hole\n");
+    say(rt, b"  hole\n")
 }

@@ -1,8 +1,12 @@
 // Numbers and bytes as they are typed: a decimal number, and bytes in hex with or without blanks between them.
+ghost use Rattle.std.specs.Prelude.{◌≤◌, length};
+
 use crate::text;
+use std::env::{Env, FillError};
+use std::io;
 use text::say;
 
-#[derive(Drop)]
+#[derive(Clone, Copy)]
 pub struct Bytes {
     pub n: usize,
     // the first digit of a byte that is not whole yet, or 16
@@ -10,7 +14,7 @@ pub struct Bytes {
     pub good: bool,
 }
 
-#[derive(Drop)]
+#[derive(Clone, Copy)]
 pub struct Number {
     pub value: u64,
     pub good: bool,
@@ -84,10 +88,8 @@ pub fn hex(text: &[u8], out: &mut [u8]) -> Bytes {
         high: 16,
         good: true,
     };
-    let mut i = 0;
-    while i < text.len() {
+    for i in 0..text.len() {
         s = take(s, text[i], out);
-        i = i + 1;
     }
     between(s)
 }
@@ -112,43 +114,71 @@ pub fn decimal(text: &[u8]) -> Number {
         value: 0,
         good: 0 < text.len(),
     };
-    let mut i = 0;
-    while i < text.len() {
+    for i in 0..text.len() {
         x = place(x, text[i]);
-        i = i + 1;
     }
     x
+}
+
+// How many words were typed, the program's own name among them.
+pub fn count(rt: &impl Env) -> usize {
+    for i in 0..usize::MAX {
+        if matches!(rt.arg(i, &mut []), Err(FillError::NotPresent)) {
+            return i;
+        }
+    }
+    usize::MAX
+}
+
+// The length of word i, which is put at the start of the buffer, and whether it is there whole: of a longer one the front is.
+pub fn argument(rt: &impl Env, i: usize, buffer: &mut [u8]) -> (usize, bool)
+    ensures { result.0 ≤ length buffer.new }
+{
+    match rt.arg(i, buffer) {
+        Ok(n) => (n, true),
+        Err(FillError::TooLong) => (buffer.len(), false),
+        Err(FillError::NotPresent) => (0, false),
+    }
 }
 
 // The list that is typed behind the command, into `out`; where it isn't one, it says so.
-pub fn list(out: &mut [u8]) -> Bytes {
-    let mut text = io::buffer();
-    let n = os::arg(2, &mut text);
-    if os::errno() != 0 {
-        say(b"The list is too long: as it is typed it may have 4096 characters.\n");
-        return Bytes {
+pub fn list(rt: &(impl Print + Env), out: &mut [u8]) -> io::Result<Bytes> {
+    let mut text = [0u8; 4096];
+    let (n, whole) = argument(rt, 2, &mut text);
+    if !whole {
+        say(
+            rt,
+            b"The list is too long: as it is typed it may have 4096 characters.\n",
+        )?;
+        return Ok(Bytes {
             n: 0,
             high: 16,
             good: false,
-        };
+        });
     }
     let got = hex(&text[..n], out);
     if !got.good {
-        say(b"The list must be whole bytes in hex, as in: '11 02 0A 00'\n");
+        say(
+            rt,
+            b"The list must be whole bytes in hex, as in: '11 02 0A 00'\n",
+        )?;
     }
-    got
+    Ok(got)
 }
 
 // The number that is typed as word i; where it isn't one, it says so.
-pub fn typed(i: usize) -> Number {
-    let mut text = io::buffer();
-    let n = os::arg(i, &mut text);
+pub fn typed(rt: &(impl Print + Env), i: usize) -> io::Result<Number> {
+    let mut text = [0u8; 4096];
+    let (n, _) = argument(rt, i, &mut text);
     let x = decimal(&text[..n]);
     if !x.good {
-        say(&text[..n]);
-        say(b": this must be a number from 0 to 18446744073709551615, in digits.\n");
+        say(rt, &text[..n])?;
+        say(
+            rt,
+            b": this must be a number from 0 to 18446744073709551615, in digits.\n",
+        )?;
     }
-    x
+    Ok(x)
 }
 
 pub fn all_good(a: Number, b: Number, c: Number, d: Number) -> bool {

@@ -5,7 +5,9 @@ mod boot;
 mod records;
 mod text;
 
-fn main() {
-    boot::cases();
-    records::cases();
+use std::io;
+
+fn main(rt: HostRuntime) -> io::Result<()> {
+    boot::cases(&rt)?;
+    records::cases(&rt)
 }

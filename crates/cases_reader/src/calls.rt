@@ -2,34 +2,36 @@
 use crate::text;
 use data_runs::Place;
 use non_resident::{By, Current, From, Outcome, Position, Reader, Sought};
+use std::io;
 use text::{item, say};
 use types::Delta;
 
-fn run(k: Current) {
+fn run(rt: &impl Print, k: Current) -> io::Result<()> {
     match k {
-        Current::Nothing => say(b", no run"),
+        Current::Nothing => say(rt, b", no run")?,
         Current::At(run) => {
             let p = run.place;
             match p {
-                Place::Disk(place) => item(b", run at", Delta::Up(place)),
-                Place::Hole => say(b", hole"),
+                Place::Disk(place) => item(rt, b", run at", Delta::Up(place))?,
+                Place::Hole => say(rt, b", hole")?,
             }
-            item(b" of", Delta::Up(run.size));
+            item(rt, b" of", Delta::Up(run.size))?;
         }
     }
+    Ok(())
 }
 
 // All parts of a reader.
-fn parts(r: Reader) {
-    item(b" place", Delta::Up(r.place));
-    item(b" of", Delta::Up(r.size));
-    item(b", cluster", Delta::Up(r.cluster));
-    item(b", cursor", Delta::Up(r.cursor as u64));
-    item(b", LCN", Delta::Up(r.lcn));
+fn parts(rt: &impl Print, r: Reader) -> io::Result<()> {
+    item(rt, b" place", Delta::Up(r.place))?;
+    item(rt, b" of", Delta::Up(r.size))?;
+    item(rt, b", cluster", Delta::Up(r.cluster))?;
+    item(rt, b", cursor", Delta::Up(r.cursor as u64))?;
+    item(rt, b", LCN", Delta::Up(r.lcn))?;
     let k = r.current;
-    run(k);
-    item(b", displacement", Delta::Up(r.displacement));
-    say(b"\n");
+    run(rt, k)?;
+    item(rt, b", displacement", Delta::Up(r.displacement))?;
+    say(rt, b"\n")
 }
 
 // No reader: every call refuses it.
@@ -45,84 +47,82 @@ fn none() -> Reader {
     }
 }
 
-fn reached(s: Sought, old: Reader) -> Reader {
-    match s {
+fn reached(rt: &impl Print, s: Sought, old: Reader) -> io::Result<Reader> {
+    Ok(match s {
         Sought::At(r) => {
-            parts(r);
+            parts(rt, r)?;
             r
         }
         Sought::Refused(x) => {
-            say(b" ");
-            text::refused(x);
+            say(rt, b" ")?;
+            text::refused(rt, x)?;
             old
         }
-    }
+    })
 }
 
-pub fn open(list: &[u8], cluster: u64, size: u64) -> Reader {
-    say(b"open:");
-    reached(Reader::open(list, cluster, size), none())
+pub fn open(rt: &impl Print, list: &[u8], cluster: u64, size: u64) -> io::Result<Reader> {
+    say(rt, b"open:")?;
+    Ok(reached(rt, Reader::open(list, cluster, size), none())?)
 }
 
-pub fn seek(r: Reader, list: &[u8], from: From, by: By) -> Reader {
-    say(b"seek:");
-    reached(r.seek(list, from, by), r)
+pub fn seek(rt: &impl Print, r: Reader, list: &[u8], from: From, by: By) -> io::Result<Reader> {
+    say(rt, b"seek:")?;
+    Ok(reached(rt, r.seek(list, from, by), r)?)
 }
 
 // A read into a store of 2, 3, 8 or 9 words, each 7 before the call, and the whole store after it.
-pub fn read(r: Reader, list: &[u8], w: u64, words: usize) -> Reader {
+pub fn read(rt: &impl Print, r: Reader, list: &[u8], w: u64, words: usize) -> io::Result<Reader> {
     let mut two = [7u64; 2];
     let mut three = [7u64; 3];
     let mut eight = [7u64; 8];
     let mut nine = [7u64; 9];
-    match words {
-        2 => lend(r, list, w, &mut two),
-        3 => lend(r, list, w, &mut three),
-        8 => lend(r, list, w, &mut eight),
-        _ => lend(r, list, w, &mut nine),
-    }
+    Ok(match words {
+        2 => lend(rt, r, list, w, &mut two)?,
+        3 => lend(rt, r, list, w, &mut three)?,
+        8 => lend(rt, r, list, w, &mut eight)?,
+        _ => lend(rt, r, list, w, &mut nine)?,
+    })
 }
 
-fn lend(r: Reader, list: &[u8], w: u64, store: &mut [u64]) -> Reader {
-    item(b"read", Delta::Up(w));
-    let to = answered(r.read(list, w, store), r);
-    say(b"store");
-    all(store);
-    to
+fn lend(rt: &impl Print, r: Reader, list: &[u8], w: u64, store: &mut [u64]) -> io::Result<Reader> {
+    item(rt, b"read", Delta::Up(w))?;
+    let to = answered(rt, r.read(list, w, store), r)?;
+    say(rt, b"store")?;
+    all(rt, store)?;
+    Ok(to)
 }
 
-fn answered(x: Outcome, old: Reader) -> Reader {
-    match x {
+fn answered(rt: &impl Print, x: Outcome, old: Reader) -> io::Result<Reader> {
+    Ok(match x {
         Outcome::Given(g) => {
-            item(b": spans", Delta::Up(g.spans as u64));
-            item(b", bytes", Delta::Up(g.bytes));
+            item(rt, b": spans", Delta::Up(g.spans as u64))?;
+            item(rt, b", bytes", Delta::Up(g.bytes))?;
             let r = g.reader;
-            parts(r);
+            parts(rt, r)?;
             r
         }
         Outcome::Refused(x) => {
-            say(b": ");
-            text::refused(x);
+            say(rt, b": ")?;
+            text::refused(rt, x)?;
             old
         }
-    }
+    })
 }
 
-fn all(store: &[u64]) {
-    let mut i: usize = 0;
-    while i < store.len() {
-        item(b"", Delta::Up(store[i]));
-        i = i + 1;
+fn all(rt: &impl Print, store: &[u64]) -> io::Result<()> {
+    for i in 0..store.len() {
+        item(rt, b"", Delta::Up(store[i]))?;
     }
-    say(b"\n");
+    say(rt, b"\n")
 }
 
-pub fn stand(r: Reader) {
-    say(b"data position: ");
+pub fn stand(rt: &impl Print, r: Reader) -> io::Result<()> {
+    say(rt, b"data position: ")?;
     match r.data_position() {
-        Position::At(p) => text::number(p),
-        Position::Nowhere => say(b"none"),
-        Position::Refused(x) => text::numbered(x),
+        Position::At(p) => text::number(rt, p)?,
+        Position::Nowhere => say(rt, b"none")?,
+        Position::Refused(x) => text::numbered(rt, x)?,
     }
-    say(b"\n");
+    say(rt, b"\n")
 }

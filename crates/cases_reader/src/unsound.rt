@@ -2,8 +2,16 @@
 use crate::{calls, text};
 use data_runs::{Place, Run};
 use non_resident::{By, Current, From, Reader};
+use std::io;
 
-fn part(list: &[u8], cluster: u64, cursor: usize, current: Current, displacement: u64) {
+fn part(
+    rt: &impl Print,
+    list: &[u8],
+    cluster: u64,
+    cursor: usize,
+    current: Current,
+    displacement: u64,
+) -> io::Result<()> {
     let r = Reader {
         cluster,
         cursor,
@@ -13,9 +21,9 @@ fn part(list: &[u8], cluster: u64, cursor: usize, current: Current, displacement
         place: 100,
         size: 4000,
     };
-    calls::seek(r, list, From::Place, By::Signed(0));
-    calls::read(r, list, 10, 3);
-    calls::stand(r);
+    calls::seek(rt, r, list, From::Place, By::Signed(0))?;
+    calls::read(rt, r, list, 10, 3)?;
+    calls::stand(rt, r)
 }
 
 fn on_disk(size: u64, place: u64) -> Current {
@@ -32,18 +40,18 @@ fn a_hole(size: u64) -> Current {
     })
 }
 
-pub fn cases(list: &[u8]) {
+pub fn cases(rt: &impl Print, list: &[u8]) -> io::Result<()> {
     let most = 0xffff_ffff_ffff_ffff;
-    text::say(b"unsound\n");
-    part(list, 511, 0, Current::Nothing, 0);
-    part(list, 4194304, 0, Current::Nothing, 0);
-    part(list, 2097152, 0, Current::Nothing, 0);
-    part(list, 512, 12, Current::Nothing, 0);
-    part(list, 512, 13, Current::Nothing, 0);
-    part(list, 512, 0, Current::Nothing, 1);
-    part(list, 512, 3, on_disk(10, 0), 10);
-    part(list, 512, 3, on_disk(10, 0), 11);
-    part(list, 512, 3, on_disk(10, most - 10), 4);
-    part(list, 512, 3, on_disk(10, most - 9), 4);
-    part(list, 512, 3, a_hole(most), 7);
+    text::say(rt, b"unsound\n")?;
+    part(rt, list, 511, 0, Current::Nothing, 0)?;
+    part(rt, list, 4194304, 0, Current::Nothing, 0)?;
+    part(rt, list, 2097152, 0, Current::Nothing, 0)?;
+    part(rt, list, 512, 12, Current::Nothing, 0)?;
+    part(rt, list, 512, 13, Current::Nothing, 0)?;
+    part(rt, list, 512, 0, Current::Nothing, 1)?;
+    part(rt, list, 512, 3, on_disk(10, 0), 10)?;
+    part(rt, list, 512, 3, on_disk(10, 0), 11)?;
+    part(rt, list, 512, 3, on_disk(10, most - 10), 4)?;
+    part(rt, list, 512, 3, on_disk(10, most - 9), 4)?;
+    part(rt, list, 512, 3, a_hole(most), 7)
 }

@@ -4,6 +4,8 @@
 mod lists;
 mod text;
 
-fn main() {
-    lists::cases();
+use std::io;
+
+fn main(rt: HostRuntime) -> io::Result<()> {
+    lists::cases(&rt)
 }

@@ -333,6 +333,7 @@ impl Reader {
         current_sound(k, self.displacement)
     }
 
+    #[tactic(auto, unfolding(format::specs::Calls::sound_in, format::specs::Pick::pick))]
     fn is_sound_in(self, end: usize) -> bool
         ensures { result ≡ sound_in end (seen self) }
     {

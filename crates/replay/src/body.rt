@@ -1,8 +1,6 @@
 // The words and bytes of an entry's body. A place is the index of a byte, a multiple of 8; LOST is the place behind what isn't there or
 // differs, and what starts at LOST ends there.
-ghost use Rattle.io.specs.Counts.{IsPrefixLen};
-
-use std::num::wrapping_add_usize;
+ghost use Rattle.std.specs.Prelude.{◌≡◌, ◌≤◌, length, take};
 
 pub const LOST: usize = 0xffff_ffff_ffff_ffff;
 
@@ -23,7 +21,7 @@ pub fn on(body: &[u8], at: usize, n: usize) -> usize {
 
 // n, or all of s where it has fewer.
 pub fn most(n: usize, s: &[u8]) -> usize
-    ensures { IsPrefixLen result s.now }
+    ensures { (result ≤ length s.now) × (result ≡ length (take result s.now)) }
 {
     if n <= s.len() { n } else { s.len() }
 }
@@ -34,13 +32,11 @@ pub fn same(body: &[u8], at: usize, words: &[u64], n: usize) -> usize {
         return LOST;
     }
     let mut p = at;
-    let mut i = 0;
-    while i < n {
+    for i in 0..n {
         if word(body, p) != words[i] {
             return LOST;
         }
         p = on(body, p, 8);
-        i = i + 1;
     }
     p
 }
@@ -70,14 +66,8 @@ pub fn bytes(body: &[u8], at: usize, out: &mut [u8], to: usize) -> usize {
         return LOST;
     }
     let first = on(body, at, 8);
-    let mut i = 0;
-    while i < n {
-        put(
-            out,
-            wrapping_add_usize(to, i),
-            byte(body, wrapping_add_usize(first, i)),
-        );
-        i = i + 1;
+    for i in 0..n {
+        put(out, to.wrapping_add(i), byte(body, first.wrapping_add(i)));
     }
     on(body, on(body, first, n), (8 - n % 8) % 8)
 }
@@ -89,13 +79,11 @@ pub fn sparse(body: &[u8], at: usize, out: &mut [u8]) -> usize {
     }
     let pieces = word(body, on(body, at, 8));
     let mut p = on(body, at, 16);
-    let mut i = 0;
-    while i < pieces {
+    for i in 0..pieces {
         if p == LOST {
             return LOST;
         }
         p = bytes(body, on(body, p, 8), out, word(body, p) as usize);
-        i = i + 1;
     }
     p
 }

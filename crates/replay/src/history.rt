@@ -26,14 +26,12 @@ fn calls(entry: &[u8], at: usize, list: &[u8], reader: &mut [u64]) -> usize {
         return LOST;
     }
     let mut p = on(entry, at, 8);
-    let mut i = 0;
-    while i < count {
+    for i in 0..count {
         if p == LOST {
             return LOST;
         }
         let answered = call(entry, p, list, reader);
         p = standing(entry, answered, reader);
-        i = i + 1;
     }
     p
 }

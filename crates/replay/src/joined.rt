@@ -1,10 +1,9 @@
 // The spans of a read as a buffer shows them: neighbouring holes are one.
 use crate::body;
 use body::{LOST, on, word};
-use std::num::wrapping_add_u64;
 
 // How far the spans were found in the body: the place behind them, the hole that isn't over yet, and all lengths so far.
-#[derive(Drop)]
+#[derive(Clone, Copy)]
 struct Found {
     at: usize,
     hole: u64,
@@ -18,12 +17,10 @@ pub fn spans(entry: &[u8], at: usize, store: &[u64], count: u64, bytes: u64) -> 
         hole: 0,
         bytes: 0,
     };
-    let mut k: usize = 0;
-    while k < store.len() / 3 {
+    for k in 0..store.len() / 3 {
         if (k as u64) < count {
             f = next(f, entry, store[3 * k], store[3 * k + 1], store[3 * k + 2]);
         }
-        k = k + 1;
     }
     if f.bytes != bytes {
         return LOST;
@@ -42,11 +39,11 @@ fn behind(entry: &[u8], at: usize) -> usize {
 }
 
 fn next(f: Found, entry: &[u8], position: u64, length: u64, kind: u64) -> Found {
-    let bytes = wrapping_add_u64(f.bytes, length);
+    let bytes = f.bytes.wrapping_add(length);
     if kind == 0 {
         return Found {
             at: f.at,
-            hole: wrapping_add_u64(f.hole, length),
+            hole: f.hole.wrapping_add(length),
             bytes,
         };
     }

@@ -7,8 +7,12 @@ mod history;
 mod joined;
 mod single;
 
+ghost use Rattle.std.specs.Prelude.{◌≤◌, length, IfOk};
+
 use body::{LOST, most, word};
-use std::num::{wrapping_add_u64, wrapping_add_usize};
+use std::fs::File;
+use std::io;
+use std::io::{Read, Write};
 
 // the bytes 'NTFS-0.4' as a word
 const MARK: u64 = 0x342e_302d_5346_544e;
@@ -19,12 +23,27 @@ const DIFFER: usize = 8;
 
 const ALTERED: usize = 16;
 
-fn say(text: &[u8]) {
-    io::write_all(libc::STDOUT_FILENO, text);
+fn say(rt: &impl Print, text: &[u8]) -> io::Result<()> {
+    io::writer(rt).write_all(text)
 }
 
-fn number(n: u64) {
-    io::print_decimal(libc::STDOUT_FILENO, n);
+// Reads until the buffer is full or the file is over.
+fn read_full(file: &mut impl Read, buffer: &mut [u8]) -> io::Result<usize>
+    ensures { IfOk result (λ n. n ≤ length buffer.new) }
+{
+    let mut n = 0;
+    for _ in 0..buffer.len() {
+        let got = file.read(&mut buffer[n..])?;
+        if got == 0 {
+            return Ok(n);
+        }
+        n += got;
+    }
+    Ok(n)
+}
+
+fn number(rt: &impl Print, n: u64) -> io::Result<()> {
+    print!(rt; "{n}")
 }
 
 // The place behind the entry where it agrees, otherwise another.
@@ -57,7 +76,7 @@ fn outcome(kind: usize, entry: &[u8]) -> usize {
 
 fn note(counts: &mut [u64], i: usize) {
     if i < counts.len() {
-        counts[i] = wrapping_add_u64(counts[i], 1);
+        counts[i] = counts[i].wrapping_add(1);
     }
 }
 
@@ -66,90 +85,98 @@ fn tried(kind: usize, entry: &mut [u8], counts: &mut [u64]) {
         note(counts, DIFFER);
         return;
     }
-    note(counts, wrapping_add_usize(outcome(kind, entry), kind));
+    note(counts, outcome(kind, entry).wrapping_add(kind));
     body::alter(entry);
-    let altered = wrapping_add_usize(outcome(kind, entry), ALTERED);
-    note(counts, wrapping_add_usize(altered, kind));
+    let altered = outcome(kind, entry).wrapping_add(ALTERED);
+    note(counts, altered.wrapping_add(kind));
 }
 
 // The body of an entry, and whether all of it was there.
-fn taken(fd: i32, kind: usize, entry: &mut [u8], counts: &mut [u64]) -> bool {
-    if io::read_full(fd, entry) != entry.len() {
-        return false;
+fn taken(
+    file: &mut impl Read,
+    kind: usize,
+    entry: &mut [u8],
+    counts: &mut [u64],
+) -> io::Result<bool> {
+    if read_full(file, entry)? != entry.len() {
+        return Ok(false);
     }
     tried(kind, entry, counts);
-    true
+    Ok(true)
 }
 
 // One entry: its kind, its length, its body.
-fn next(fd: i32, room: &mut [u8], counts: &mut [u64]) -> bool {
+fn next(file: &mut impl Read, room: &mut [u8], counts: &mut [u64]) -> io::Result<bool> {
     let mut head = [0u8; 16];
-    if io::read_full(fd, &mut head) != 16 {
-        return false;
+    if read_full(file, &mut head)? != 16 {
+        return Ok(false);
     }
     let n = most(word(&head, 8) as usize, room);
     if word(&head, 8) != n as u64 {
-        return false;
+        return Ok(false);
     }
-    taken(fd, word(&head, 0) as usize, &mut room[..n], counts)
+    taken(file, word(&head, 0) as usize, &mut room[..n], counts)
 }
 
-fn entries(fd: i32, count: u64, room: &mut [u8], counts: &mut [u64]) {
-    let mut i = 0;
-    while i < count {
-        if !next(fd, room, counts) {
-            say(b"the list is cut short, or an entry is too long\n");
-            return;
+fn entries(
+    rt: &impl Print,
+    file: &mut impl Read,
+    count: u64,
+    room: &mut [u8],
+    counts: &mut [u64],
+) -> io::Result<()> {
+    for _ in 0..count {
+        if !next(file, room, counts)? {
+            say(rt, b"the list is cut short, or an entry is too long\n")?;
+            return Ok(());
         }
-        i = i + 1;
     }
-    if io::read_full(fd, room) != 0 {
-        say(b"there is more behind the last entry\n");
+    if read_full(file, room)? != 0 {
+        say(rt, b"there is more behind the last entry\n")?;
     }
+    Ok(())
 }
 
-fn line(name: &[u8], counts: &[u64; 32], kind: usize) {
-    say(name);
+fn line(rt: &impl Print, name: &[u8], counts: &[u64; 32], kind: usize) -> io::Result<()> {
+    say(rt, name)?;
     if kind < 8 {
-        number(counts[AGREE + kind]);
-        say(b" as the Rust, ");
-        number(counts[DIFFER + kind]);
-        say(b" not; altered, ");
-        number(counts[ALTERED + DIFFER + kind]);
-        say(b" differ\n");
+        number(rt, counts[AGREE + kind])?;
+        say(rt, b" as the Rust, ")?;
+        number(rt, counts[DIFFER + kind])?;
+        say(rt, b" not; altered, ")?;
+        number(rt, counts[ALTERED + DIFFER + kind])?;
+        say(rt, b" differ\n")?;
     }
+    Ok(())
 }
 
-fn report(counts: &[u64; 32]) {
-    line(b"boot sectors ", counts, 1);
-    line(b"records      ", counts, 2);
-    line(b"single runs  ", counts, 3);
-    line(b"lookups      ", counts, 4);
-    line(b"histories    ", counts, 5);
-    number(counts[DIFFER]);
-    say(b" entries of no kind\n");
+fn report(rt: &impl Print, counts: &[u64; 32]) -> io::Result<()> {
+    line(rt, b"boot sectors ", counts, 1)?;
+    line(rt, b"records      ", counts, 2)?;
+    line(rt, b"single runs  ", counts, 3)?;
+    line(rt, b"lookups      ", counts, 4)?;
+    line(rt, b"histories    ", counts, 5)?;
+    number(rt, counts[DIFFER])?;
+    say(rt, b" entries of no kind\n")
 }
 
-fn file(fd: i32) {
+fn file(rt: &impl Print, mut file: impl Read + Drop) -> io::Result<()> {
     let mut head = [0u8; 16];
-    if io::read_full(fd, &mut head) == 16 {
+    if read_full(&mut file, &mut head)? == 16 {
         if word(&head, 0) == MARK {
             let mut room = [0u8; 2048];
             let mut counts = [0u64; 32];
-            entries(fd, word(&head, 8), &mut room, &mut counts);
-            report(&counts);
-            return;
+            entries(rt, &mut file, word(&head, 8), &mut room, &mut counts)?;
+            report(rt, &counts)?;
+            return Ok(());
         }
     }
-    say(b"answers.bin is no list of answers\n");
+    say(rt, b"answers.bin is no list of answers\n")
 }
 
-fn main() {
-    let fd = os::open_read(b"answers.bin");
-    if fd < 0 {
-        os::fail(b"answers.bin");
-        return;
+fn main(rt: HostRuntime) -> io::Result<()> {
+    match File::open(&rt, "answers.bin") {
+        Ok(answers) => file(&rt, answers),
+        Err(e) => eprintln!(rt; "answers.bin: {e}"),
     }
-    file(fd);
-    libc::close(fd);
 }

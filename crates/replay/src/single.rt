@@ -23,20 +23,18 @@ pub fn repair(entry: &[u8]) -> usize {
 }
 
 fn equal(a: &[u8; 4096], b: &[u8; 4096]) -> bool {
-    check::same(a, b)
+    a == b
 }
 
 // The bytes that a repair changes, put into the record as it was: pairs of an index and a byte.
 fn changes(entry: &[u8], at: usize, wanted: &mut [u8]) -> usize {
     let count = word(entry, at);
     let mut p = on(entry, at, 8);
-    let mut i = 0;
-    while i < count {
+    for i in 0..count {
         if p == LOST {
             return LOST;
         }
         p = change(entry, p, wanted);
-        i = i + 1;
     }
     p
 }
