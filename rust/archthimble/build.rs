@@ -25,21 +25,31 @@ fn given(folder: PathBuf) -> PathBuf {
     folder
 }
 
-/// The folder into which the toolchain writes. Only the sources are watched: the library itself is newer than this build's start, and cargo
-/// would take that for a change at every build.
+/// The folder into which `rust/staticlib` writes. Only the sources are watched: what the toolchain writes, into `crates/NAME/out` too, is
+/// newer than this build's start, and cargo would take that for a change at every build.
 fn proved() -> PathBuf {
     let root = Path::new(&env::var_os("CARGO_MANIFEST_DIR").expect("cargo sets it")).join("../..");
-    println!("cargo:rerun-if-changed={}", root.join("crates").display());
-    match Command::new("rt").args(["staticlib", "capi"]).current_dir(&root).status() {
+    println!("cargo:rerun-if-changed={}", root.join("crates.txt").display());
+    for source in sources(&root.join("crates")) {
+        println!("cargo:rerun-if-changed={}", source.display());
+    }
+    let script = root.join("rust/staticlib");
+    match Command::new(&script).status() {
         Ok(status) if status.success() => (),
-        Ok(status) => give_up(&format!("'rt staticlib capi' in {} ended with {status}", root.display())),
-        Err(error) => give_up(&format!("'rt staticlib capi' could not be started in {}: {error}", root.display())),
+        Ok(status) => give_up(&format!("{} ended with {status}", script.display())),
+        Err(error) => give_up(&format!("{} could not be started: {error}", script.display())),
     }
     let folder = root.join("target/staticlib");
     if !folder.join("libcapi.a").is_file() {
-        give_up(&format!("'rt staticlib capi' left no libcapi.a in {}", folder.display()));
+        give_up(&format!("{} left no libcapi.a in {}", script.display(), folder.display()));
     }
     folder
+}
+
+/// What the proved crates are made of.
+fn sources(crates: &Path) -> Vec<PathBuf> {
+    let folders = crates.read_dir().into_iter().flatten().flatten().map(|entry| entry.path());
+    folders.flat_map(|folder| ["src", "specs", "proofs"].map(|part| folder.join(part))).filter(|path| path.is_dir()).collect()
 }
 
 fn give_up(why: &str) -> ! {

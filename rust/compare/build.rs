@@ -1,4 +1,4 @@
-//! Links the port's static library out of the folder that ARCHTHIMBLE_LIB names, by default the one where the toolchain puts it.
+//! Links the port's static library out of the folder that ARCHTHIMBLE_LIB names, by default the one where `rust/staticlib` puts it.
 use std::path::PathBuf;
 
 fn main() {
