@@ -1,4 +1,5 @@
-// A file that is named on the command line, or why it can't be read.
+// A file that is named on the command line, or why it can't be read. Where standard error can't be written, the sentence
+// on standard output has to do.
 ghost use Rattle.std.specs.Prelude.{◌≤◌, length, IfOk};
 
 use crate::{text, words};
@@ -13,18 +14,18 @@ pub fn open<R: Print + Eprint + Env + Files>(rt: &R, i: usize) -> io::Result<Opt
     let mut path = [0u8; 4096];
     let (n, whole) = words::argument(rt, i, &mut path);
     if !whole {
-        eprintln!(rt; "the name of the file: File name too long")?;
+        let _ = eprintln!(rt; "the name of the file: File name too long");
         return Ok(None);
     }
     let Ok(path) = str::from_utf8(&path[..n]) else {
-        eprintln!(rt; "the name of the file: it is not UTF-8")?;
+        let _ = eprintln!(rt; "the name of the file: it is not UTF-8");
         unread(rt)?;
         return Ok(None);
     };
     match File::open(rt, path) {
         Ok(file) => Ok(Some(file)),
         Err(e) => {
-            eprintln!(rt; "{path}: {e}")?;
+            let _ = eprintln!(rt; "{path}: {e}");
             unread(rt)?;
             Ok(None)
         }
@@ -37,6 +38,9 @@ pub fn read_full(file: &mut impl Read, buffer: &mut [u8]) -> io::Result<usize>
 {
     let mut n = 0;
     for _ in 0..buffer.len() {
+        if n == buffer.len() {
+            return Ok(n);
+        }
         let got = file.read(&mut buffer[n..])?;
         if got == 0 {
             return Ok(n);
@@ -48,7 +52,7 @@ pub fn read_full(file: &mut impl Read, buffer: &mut [u8]) -> io::Result<usize>
 
 // Says that a read failed.
 pub fn failed(rt: &(impl Print + Eprint), e: io::Error) -> io::Result<()> {
-    eprintln!(rt; "reading: {e}")?;
+    let _ = eprintln!(rt; "reading: {e}");
     unread(rt)
 }
 

@@ -169,8 +169,12 @@ pub fn list(rt: &(impl Print + Env), out: &mut [u8]) -> io::Result<Bytes> {
 // The number that is typed as word i; where it isn't one, it says so.
 pub fn typed(rt: &(impl Print + Env), i: usize) -> io::Result<Number> {
     let mut text = [0u8; 4096];
-    let (n, _) = argument(rt, i, &mut text);
-    let x = decimal(&text[..n]);
+    let (n, whole) = argument(rt, i, &mut text);
+    let read = decimal(&text[..n]);
+    let x = Number {
+        value: read.value,
+        good: read.good && whole,
+    };
     if !x.good {
         say(rt, &text[..n])?;
         say(

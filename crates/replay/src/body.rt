@@ -79,7 +79,7 @@ pub fn sparse(body: &[u8], at: usize, out: &mut [u8]) -> usize {
     }
     let pieces = word(body, on(body, at, 8));
     let mut p = on(body, at, 16);
-    for i in 0..pieces {
+    for _ in 0..pieces {
         if p == LOST {
             return LOST;
         }

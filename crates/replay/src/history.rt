@@ -26,7 +26,7 @@ fn calls(entry: &[u8], at: usize, list: &[u8], reader: &mut [u64]) -> usize {
         return LOST;
     }
     let mut p = on(entry, at, 8);
-    for i in 0..count {
+    for _ in 0..count {
         if p == LOST {
             return LOST;
         }

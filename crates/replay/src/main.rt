@@ -1,4 +1,4 @@
-// Replays the fixed list: answers that crate ntfs 0.4.0 gave, entry by entry, against the library as C calls it. Each entry is tried once
+// Replays the fixed list: answers that crate ntfs 0.4.0 gave, entry by entry, against the library through the calls that C has. Each entry is tried once
 // more with its last word altered and must then differ, so that a comparison that sees nothing is seen.
 #![tactic(auto)]
 
@@ -7,7 +7,7 @@ mod history;
 mod joined;
 mod single;
 
-ghost use Rattle.std.specs.Prelude.{◌≤◌, length, IfOk};
+ghost use Rattle.std.specs.Prelude.{◌≤◌, length};
 
 use body::{LOST, most, word};
 use std::fs::File;
@@ -27,19 +27,22 @@ fn say(rt: &impl Print, text: &[u8]) -> io::Result<()> {
     io::writer(rt).write_all(text)
 }
 
-// Reads until the buffer is full or the file is over.
-fn read_full(file: &mut impl Read, buffer: &mut [u8]) -> io::Result<usize>
-    ensures { IfOk result (λ n. n ≤ length buffer.new) }
+// Reads until the buffer is full, or nothing more can be read, and answers how many bytes came.
+fn read_full(file: &mut impl Read, buffer: &mut [u8]) -> usize
+    ensures { result ≤ length buffer.new }
 {
     let mut n = 0;
     for _ in 0..buffer.len() {
-        let got = file.read(&mut buffer[n..])?;
-        if got == 0 {
-            return Ok(n);
+        if n == buffer.len() {
+            return n;
         }
-        n += got;
+        match file.read(&mut buffer[n..]) {
+            Ok(0) => return n,
+            Ok(got) => n += got,
+            Err(_) => return n,
+        }
     }
-    Ok(n)
+    n
 }
 
 fn number(rt: &impl Print, n: u64) -> io::Result<()> {
@@ -92,28 +95,23 @@ fn tried(kind: usize, entry: &mut [u8], counts: &mut [u64]) {
 }
 
 // The body of an entry, and whether all of it was there.
-fn taken(
-    file: &mut impl Read,
-    kind: usize,
-    entry: &mut [u8],
-    counts: &mut [u64],
-) -> io::Result<bool> {
-    if read_full(file, entry)? != entry.len() {
-        return Ok(false);
+fn taken(file: &mut impl Read, kind: usize, entry: &mut [u8], counts: &mut [u64]) -> bool {
+    if read_full(file, entry) != entry.len() {
+        return false;
     }
     tried(kind, entry, counts);
-    Ok(true)
+    true
 }
 
 // One entry: its kind, its length, its body.
-fn next(file: &mut impl Read, room: &mut [u8], counts: &mut [u64]) -> io::Result<bool> {
+fn next(file: &mut impl Read, room: &mut [u8], counts: &mut [u64]) -> bool {
     let mut head = [0u8; 16];
-    if read_full(file, &mut head)? != 16 {
-        return Ok(false);
+    if read_full(file, &mut head) != 16 {
+        return false;
     }
     let n = most(word(&head, 8) as usize, room);
     if word(&head, 8) != n as u64 {
-        return Ok(false);
+        return false;
     }
     taken(file, word(&head, 0) as usize, &mut room[..n], counts)
 }
@@ -126,12 +124,12 @@ fn entries(
     counts: &mut [u64],
 ) -> io::Result<()> {
     for _ in 0..count {
-        if !next(file, room, counts)? {
+        if !next(file, room, counts) {
             say(rt, b"the list is cut short, or an entry is too long\n")?;
             return Ok(());
         }
     }
-    if read_full(file, room)? != 0 {
+    if read_full(file, room) != 0 {
         say(rt, b"there is more behind the last entry\n")?;
     }
     Ok(())
@@ -162,7 +160,7 @@ fn report(rt: &impl Print, counts: &[u64; 32]) -> io::Result<()> {
 
 fn file(rt: &impl Print, mut file: impl Read + Drop) -> io::Result<()> {
     let mut head = [0u8; 16];
-    if read_full(&mut file, &mut head)? == 16 {
+    if read_full(&mut file, &mut head) == 16 {
         if word(&head, 0) == MARK {
             let mut room = [0u8; 2048];
             let mut counts = [0u64; 32];
@@ -177,6 +175,10 @@ fn file(rt: &impl Print, mut file: impl Read + Drop) -> io::Result<()> {
 fn main(rt: HostRuntime) -> io::Result<()> {
     match File::open(&rt, "answers.bin") {
         Ok(answers) => file(&rt, answers),
-        Err(e) => eprintln!(rt; "answers.bin: {e}"),
+        Err(e) => {
+            // where standard error can't be written either, there is nobody to tell
+            let _ = eprintln!(rt; "answers.bin: {e}");
+            Ok(())
+        }
     }
 }

@@ -30,7 +30,7 @@ fn equal(a: &[u8; 4096], b: &[u8; 4096]) -> bool {
 fn changes(entry: &[u8], at: usize, wanted: &mut [u8]) -> usize {
     let count = word(entry, at);
     let mut p = on(entry, at, 8);
-    for i in 0..count {
+    for _ in 0..count {
         if p == LOST {
             return LOST;
         }

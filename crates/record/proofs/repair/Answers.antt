@@ -1,4 +1,4 @@
--- Each return follows the definition's tests; what the tests leave is what the sectors need (fits-bounds, reaches-not).
+-- Each return follows the definition's tests; what the tests leave is what the sectors need (fits_bounds, reaches_not).
 use native.Mathlib.Omega.{arith}
 use mathlib.Core.Path.{sym, ◌∙◌}
 use borrow.Author.Tests.{lt-ltb, le-ltb, eq-eqb, ne_eqb}
