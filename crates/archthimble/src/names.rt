@@ -104,6 +104,14 @@ fn of_runs(rt: &impl Print, n: u64) -> io::Result<()> {
             rt,
             b"run end: the end of the run at the byte given is over 2^64 - 1.\n",
         )?,
+        _ => of_calls(rt, n)?,
+    }
+    Ok(())
+}
+
+// What a call on a list is refused for before a run is met.
+fn of_calls(rt: &impl Print, n: u64) -> io::Result<()> {
+    match n {
         20 => say(
             rt,
             b"seek target: the place to seek is below 0 or over 2^64 - 1.\n",

@@ -111,7 +111,7 @@ fn onward(rt: &impl Print, w: Walk, list: &[u8]) -> io::Result<Walk> {
         return Ok(w);
     }
     let mut store = [0u64; 30];
-    Ok(given(rt, w, list, &mut store)?)
+    given(rt, w, list, &mut store)
 }
 
 fn given(rt: &impl Print, w: Walk, list: &[u8], store: &mut [u64]) -> io::Result<Walk> {

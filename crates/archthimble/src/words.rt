@@ -130,7 +130,8 @@ pub fn count(rt: &impl Env) -> usize {
     usize::MAX
 }
 
-// The length of word i, which is put at the start of the buffer, and whether it is there whole: of a longer one the front is.
+// The length of word i, which is put at the start of the buffer, and whether it is there whole: of one that is longer
+// than the buffer the front is.
 pub fn argument(rt: &impl Env, i: usize, buffer: &mut [u8]) -> (usize, bool)
     ensures { result.0 ≤ length buffer.new }
 {

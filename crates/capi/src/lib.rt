@@ -1,4 +1,5 @@
-// The calls for C and Rust, which link them from capi_c: words in, values to the proved calls, words out. There is no logic here beyond that.
+// The calls for C and Rust, which link them from capi_c: words in, values to the proved calls, words out. There is no
+// logic here beyond that.
 #![tactic(auto)]
 
 mod answers;

@@ -1,6 +1,6 @@
--- NO SECOND OUTCOME of the calls that C links: two outcomes that both keep a call's contract, called with the same arguments, are one number,
--- and each lent store is left in one way. `Learnt` is the contract as the compiler has it. The same is proved of the calls of `capi` below
--- these in demand3's `Unique`.
+-- NO SECOND OUTCOME of the calls that C links: two outcomes that both keep a call's contract, called with the same
+-- arguments, are one number, and each lent store is left in one way. `Learnt` is the contract as the compiler has it. The
+-- same is proved of the calls of `capi` below these in demand3's `Unique`.
 use mathlib.Core.Path.{◌≡◌, sym, ◌∙◌}
 use contract.Lifetimes.{Lfts}
 use denote.Triple.Clauses.{AtExit}

@@ -117,6 +117,11 @@ fn numbers(rt: &impl Print) -> io::Result<()> {
         1,
     )?;
     one(rt, b"offset 7, bytes", 8, 4, 7)?;
+    counts(rt)
+}
+
+// The sequence count, and the array that it stands for.
+fn counts(rt: &impl Print) -> io::Result<()> {
     one(rt, b"count 0, bytes", 1024, 6, 0)?;
     three(
         rt,

@@ -63,12 +63,12 @@ fn reached(rt: &impl Print, s: Sought, old: Reader) -> io::Result<Reader> {
 
 pub fn open(rt: &impl Print, list: &[u8], cluster: u64, size: u64) -> io::Result<Reader> {
     say(rt, b"open:")?;
-    Ok(reached(rt, Reader::open(list, cluster, size), none())?)
+    reached(rt, Reader::open(list, cluster, size), none())
 }
 
 pub fn seek(rt: &impl Print, r: Reader, list: &[u8], from: From, by: By) -> io::Result<Reader> {
     say(rt, b"seek:")?;
-    Ok(reached(rt, r.seek(list, from, by), r)?)
+    reached(rt, r.seek(list, from, by), r)
 }
 
 // A read into a store of 2, 3, 8 or 9 words, each 7 before the call, and the whole store after it.

@@ -166,6 +166,11 @@ fn limits(rt: &impl Print) -> io::Result<()> {
     )?;
     walk(rt, b"LCN down to 0, cluster", b"\x11\x01\xfe", 512, 2)?;
     walk(rt, b"LCN below 0, cluster", b"\x11\x01\xfe", 512, 1)?;
+    ends(rt)
+}
+
+// Where a run's end or its place stops fitting 64 bits.
+fn ends(rt: &impl Print) -> io::Result<()> {
     walk(
         rt,
         b"end 2^64 - 512, cluster",

@@ -1,7 +1,8 @@
--- NO SECOND OUTCOME: of each public call of the libraries, two outcomes that both keep its contract are the same. `Learnt` is the
--- contract as the compiler has it; the arguments a are one and the same, and so is what was lent. By what is shown of an answer: each
--- contract is an equation with a definition, and what shows the answer is injective. Two crates have it beside their code: `in_place`, whose
--- calls promise a relation of its `Promise`, in `seeks_once` and `reads_once` there, and `capi_c`, which C links, in its own `Unique`.
+-- NO SECOND OUTCOME: of each public call of the libraries, two outcomes that both keep its contract are the same. `Learnt`
+-- is the contract as the compiler has it; the arguments a are one and the same, and so is what was lent. By what is shown of
+-- an answer: each contract is an equation with a definition, and what shows the answer is injective. Two crates have it
+-- beside their code: `in_place`, whose calls promise a relation of its `Promise`, in `seeks_once` and `reads_once` there, and
+-- `capi_c`, which C links, in its own `Unique`.
 use Prim.Native.Nat.{ℕ}
 use mathlib.Core.Path.{◌≡◌, sym, ◌∙◌}
 use mathlib.Core.List.{List}

@@ -1,5 +1,6 @@
-// Replays the fixed list: answers that crate ntfs 0.4.0 gave, entry by entry, against the library through the calls that C has. Each entry is tried once
-// more with its last word altered and must then differ, so that a comparison that sees nothing is seen.
+// Replays the fixed list: answers that crate ntfs 0.4.0 gave, entry by entry, against the library through the calls that
+// C has. Each entry is tried once more with its last word altered and must then differ, so that a comparison that sees
+// nothing is seen.
 #![tactic(auto)]
 
 mod body;
