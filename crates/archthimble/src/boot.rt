@@ -1,81 +1,57 @@
-// `archthimble boot`: a boot sector's geometry as a table, or why it is refused.
-use crate::{files, names, table, text};
-use boot_sector::{Boot, Geometry};
-use std::env::Env;
+//! `archthimble boot`: a boot sector's geometry as a table, or why it is refused.
+use crate::files;
+use crate::table::{Clusters, explain};
+use crate::words::Word;
+use boot_sector::Geometry;
 use std::fs::Files;
 use std::io;
-use std::io::{Eprint, Read};
-use text::say;
-use types::{Delta, Lcn, Word};
+use std::io::Eprint;
+use types::Lcn;
 
 pub fn sample(rt: &impl Print) -> io::Result<()> {
-    say(rt, b"A boot sector that is built in:\n\n")?;
-    let sector = samples::boot();
-    whole(rt, &sector)
+    println!(rt; "A boot sector that is built in:\n")?;
+    show(rt, &samples::boot())
 }
 
-fn whole(rt: &impl Print, sector: &[u8; 512]) -> io::Result<()> {
-    show(rt, sector)
-}
-
-pub fn file(rt: &(impl Print + Eprint + Env + Files)) -> io::Result<()> {
-    match files::open(rt, 2)? {
-        Some(file) => from(rt, file),
-        None => Ok(()),
-    }
-}
-
-fn from(rt: &(impl Print + Eprint), mut file: impl Read + Drop) -> io::Result<()> {
-    let mut sector = [0u8; 512];
-    match files::read_full(&mut file, &mut sector) {
-        Ok(got) => show(rt, &sector[..got]),
-        Err(e) => files::failed(rt, e),
+pub fn file(rt: &(impl Print + Eprint + Files + AllocGlobal), name: &Word) -> io::Result<()> {
+    match files::front(rt, name, Geometry::LENGTH) {
+        Ok(sector) => show(rt, sector.as_slice()),
+        Err(error) => files::tell(rt, error),
     }
 }
 
 fn show(rt: &impl Print, sector: &[u8]) -> io::Result<()> {
     match Geometry::read(sector) {
-        Boot::Read(g) => geometry(rt, g)?,
-        Boot::Refused(x) => names::explain(rt, x)?,
+        Ok(geometry) => table(rt, geometry),
+        Err(refusal) => explain(rt, refusal),
     }
-    Ok(())
 }
 
-fn geometry(rt: &impl Print, g: Geometry) -> io::Result<()> {
-    table::row(rt, b"sector size     ", g.sector_size, b" bytes\n")?;
-    table::row(rt, b"cluster size    ", g.cluster_size, b" bytes\n")?;
-    table::row(rt, b"total sectors   ", g.total_sectors, b" sectors, ")?;
-    volume(rt, g.total_sectors, g.sector_size, g.cluster_size)?;
-    cluster(rt, b"MFT             ", g.mft_lcn, g.cluster_size)?;
-    cluster(rt, b"MFT mirror      ", g.mirror_lcn, g.cluster_size)?;
-    table::row(rt, b"file record size", g.record_size, b" bytes\n")?;
-    say(rt, b"index record info    ")?;
-    text::signed(rt, Delta::of_byte(g.index_info))?;
-    say(
-        rt,
-        b" (as it stands: clusters, or minus an exponent of bytes)\nserial number        ",
+fn table(rt: &impl Print, geometry: Geometry) -> io::Result<()> {
+    let cluster = geometry.cluster_size;
+    println!(rt; "sector size     {:>21} bytes", geometry.sector_size)?;
+    println!(rt; "cluster size    {cluster:>21} bytes")?;
+    let sectors = geometry.total_sectors;
+    print!(rt; "total sectors   {sectors:>21} sectors, ")?;
+    match types::times(sectors, geometry.sector_size) {
+        Some(bytes) => println!(rt; "{}", Clusters { bytes, cluster })?,
+        None => println!(rt; "past 2^64 - 1 bytes")?,
+    }
+    lcn(rt, "MFT", geometry.mft_lcn, cluster)?;
+    lcn(rt, "MFT mirror", geometry.mirror_lcn, cluster)?;
+    println!(rt; "file record size{:>21} bytes", geometry.record_size)?;
+    println!(rt;
+        "index record info    {} (as it stands: clusters, or minus an exponent of bytes)",
+        geometry.index_info
     )?;
-    let n = g.serial;
-    print!(rt; "{n:016x}")?;
-    say(rt, b" (hex)\n")
+    println!(rt; "serial number        {:016x} (hex)", geometry.serial)
 }
 
-// The volume's size in bytes and in clusters.
-fn volume(rt: &impl Print, sectors: u64, size: u64, cluster: u64) -> io::Result<()> {
-    match types::times(sectors, size) {
-        Word::Is(bytes) => table::clusters(rt, bytes, cluster)?,
-        Word::Out => say(rt, b"past 2^64 - 1 bytes")?,
+/// An LCN, and where its first byte lies.
+fn lcn(rt: &impl Print, name: &str, lcn: u64, cluster: u64) -> io::Result<()> {
+    print!(rt; "{name:<16}{lcn:>21} LCN, byte ")?;
+    match Lcn(lcn).position(cluster) {
+        Some(byte) => println!(rt; "{byte}"),
+        None => println!(rt; "past 2^64 - 1"),
     }
-    say(rt, b"\n")
-}
-
-// An LCN, and where its first byte lies.
-fn cluster(rt: &impl Print, name: &[u8], lcn: u64, size: u64) -> io::Result<()> {
-    table::row(rt, name, lcn, b" LCN, byte ")?;
-    let lcn = Lcn(lcn);
-    match lcn.position(size) {
-        Word::Is(n) => text::number(rt, n)?,
-        Word::Out => say(rt, b"past 2^64 - 1")?,
-    }
-    say(rt, b"\n")
 }

@@ -1,26 +1,22 @@
-// archthimble: what a disk's parts say, by the proved library.
+//! archthimble: what a disk's parts say, by the proved library.
 #![tactic(auto)]
 
 mod boot;
 mod files;
-mod names;
 mod records;
 mod runs;
 mod spans;
 mod table;
-mod text;
 mod words;
 
 use std::env::Env;
 use std::fs::Files;
 use std::io;
 use std::io::Eprint;
-use text::say;
+use words::Word;
 
-fn usage(rt: &impl Print) -> io::Result<()> {
-    say(
-        rt,
-        b"archthimble shows what the parts of an NTFS disk say, by a proved library. It changes no file.
+const USAGE: &str = "\
+archthimble shows what the parts of an NTFS disk say, by a proved library. It changes no file.
 
 archthimble                    a stretch of a stream, read from a run list that is built in
 
@@ -44,77 +40,47 @@ archthimble help               this
 A bar shows the stream from left to right: # lies on the disk, . in a hole.
 Behind an = sign a size is in clusters, and a place is in a cluster: 1000 bytes = 1 x 512 + 488.
 What is refused is named by its number and a sentence; the exit status is 0 all the same, so read
-the words. Numbers are decimal, from 0 to 2^64 - 1.
-",
-    )
+the words. Numbers are decimal, from 0 to 2^64 - 1.";
+
+fn run(
+    rt: &(impl Print + Eprint + Files + AllocGlobal),
+    command: &Word,
+    words: &[Word],
+) -> io::Result<()> {
+    match (command.front(), words) {
+        (b"boot", []) => boot::sample(rt),
+        (b"boot", [file]) => boot::file(rt, file),
+        (b"boot", _) => example(rt, "boot disk.img"),
+        (b"record", [file]) => records::file(rt, file),
+        (b"record", _) => example(rt, "record record.bin"),
+        (b"runs", [list, cluster]) => runs::typed(rt, list, cluster),
+        (b"runs", _) => example(rt, "runs '11 02 0A 00' 512"),
+        (b"spans", [list, cluster, size, offset, length]) => {
+            spans::typed(rt, list, [cluster, size, offset, length])
+        }
+        (b"spans", _) => example(rt, "spans '11 02 0A 00' 512 1000 0 1000"),
+        (b"help" | b"--help", _) => rt.println(USAGE),
+        (other, _) => unknown(rt, other),
+    }
 }
 
-// Whether so many words were typed; otherwise it says what to type.
-fn takes(rt: &impl Print, words: usize, n: usize, example: &[u8]) -> io::Result<bool> {
-    if words == n {
-        return Ok(true);
-    }
-    say(rt, b"That takes other words. For example: archthimble ")?;
-    say(rt, example)?;
-    say(rt, b"\n'archthimble help' says what they mean.\n")?;
-    Ok(false)
+/// Says what to type where a command takes other words.
+fn example(rt: &impl Print, words: &str) -> io::Result<()> {
+    println!(rt; "That takes other words. For example: archthimble {words}")?;
+    println!(rt; "'archthimble help' says what they mean.")
 }
 
-fn command(rt: &(impl Print + Eprint + Env + Files), word: &[u8], words: usize) -> io::Result<()> {
-    if word == b"boot".as_slice() {
-        if words == 2 {
-            boot::sample(rt)?;
-            return Ok(());
-        }
-        if takes(rt, words, 3, b"boot disk.img")? {
-            boot::file(rt)?;
-        }
-        return Ok(());
-    }
-    if word == b"record".as_slice() {
-        if takes(rt, words, 3, b"record record.bin")? {
-            records::file(rt)?;
-        }
-        return Ok(());
-    }
-    if word == b"runs".as_slice() {
-        if takes(rt, words, 4, b"runs '11 02 0A 00' 512")? {
-            runs::typed(rt)?;
-        }
-        return Ok(());
-    }
-    if word == b"spans".as_slice() {
-        if takes(rt, words, 7, b"spans '11 02 0A 00' 512 1000 0 1000")? {
-            spans::typed(rt)?;
-        }
-        return Ok(());
-    }
-    other(rt, word)
+fn unknown(rt: &impl Print, word: &[u8]) -> io::Result<()> {
+    print!(rt; "archthimble does not know '")?;
+    rt.write_all(word)?;
+    println!(rt; "'. This is what there is:\n\n{USAGE}")
 }
 
-fn asks_help(word: &[u8]) -> bool {
-    if word == b"--help".as_slice() {
-        return true;
-    }
-    word == b"help".as_slice()
-}
-
-fn other(rt: &impl Print, word: &[u8]) -> io::Result<()> {
-    if !asks_help(word) {
-        say(rt, b"archthimble does not know '")?;
-        say(rt, word)?;
-        say(rt, b"'. This is what there is:\n\n")?;
-    }
-    usage(rt)
-}
-
+/// An error here is one of printing or of memory. It is printed as std does it, where anyhow has other words.
 fn main(rt: HostRuntime) -> io::Result<()> {
-    let words = words::count(&rt);
-    if words < 2 {
-        spans::sample(&rt)?;
-        return Ok(());
+    let words = words::typed(&rt)?;
+    match words.as_slice() {
+        [] | [_] => spans::sample(&rt),
+        [_, command, words @ ..] => run(&rt, command, words),
     }
-    let mut word = [0u8; 4096];
-    let (n, _) = words::argument(&rt, 1, &mut word);
-    command(&rt, &word[..n], words)
 }

@@ -1,74 +1,53 @@
-// `archthimble record`: repairs a copy of a record in memory, and says what was found; the file is never written.
-use crate::{files, names, table, text};
-use record::Repaired;
-use std::env::Env;
+//! `archthimble record`: repairs a copy of a record in memory, and says what was found; the file is never written.
+use crate::files;
+use crate::table::explain;
+use crate::words::Word;
+use record::{MAX_RECORD, MIN_RECORD};
 use std::fs::Files;
 use std::io;
-use std::io::{Eprint, Read};
-use text::say;
+use std::io::Eprint;
 
-pub fn file(rt: &(impl Print + Eprint + Env + Files)) -> io::Result<()> {
-    match files::open(rt, 2)? {
-        Some(file) => from(rt, file),
-        None => Ok(()),
-    }
-}
-
-// One byte more than a record may have is asked for, so that a longer file is refused.
-fn from(rt: &(impl Print + Eprint), mut file: impl Read + Drop) -> io::Result<()> {
-    let mut lent = [0u8; 4097];
-    match files::read_full(&mut file, &mut lent) {
-        Ok(got) => {
-            let before = lent;
-            show(rt, &mut lent[..got], &before)
+/// One byte more than a record may have is asked for, so that a longer file is refused.
+pub fn file(rt: &(impl Print + Eprint + Files + AllocGlobal), name: &Word) -> io::Result<()> {
+    match files::front(rt, name, MAX_RECORD + 1) {
+        Ok(mut bytes) => {
+            let before = bytes.clone()?;
+            show(rt, bytes.as_mut_slice(), before.as_slice())
         }
-        Err(e) => files::failed(rt, e),
+        Err(error) => files::tell(rt, error),
     }
 }
 
-fn show(rt: &impl Print, lent: &mut [u8], before: &[u8; 4097]) -> io::Result<()> {
-    fields(rt, lent)?;
-    match record::repair(lent) {
-        Repaired::Done => say(
-            rt,
-            b"repaired: each sector that the count covers ended in the sequence number\n",
+fn show(rt: &impl Print, bytes: &mut [u8], before: &[u8]) -> io::Result<()> {
+    fields(rt, bytes)?;
+    match record::repair(bytes) {
+        Ok(()) => println!(rt;
+            "repaired: each sector that the count covers ended in the sequence number"
         )?,
-        Repaired::Refused(x) => names::explain(rt, x)?,
+        Err(refusal) => explain(rt, refusal)?,
     }
-    ends(rt, lent, before)
+    changes(rt, before, bytes)
 }
 
-fn fields(rt: &impl Print, lent: &[u8]) -> io::Result<()> {
-    if 4096 < lent.len() {
-        say(rt, b"record                 over 4096 bytes\n")?;
+fn fields(rt: &impl Print, bytes: &[u8]) -> io::Result<()> {
+    let len = bytes.len();
+    if len > MAX_RECORD {
+        return println!(rt; "record                 over {MAX_RECORD} bytes");
+    }
+    println!(rt; "record          {len:>21} bytes")?;
+    if len < MIN_RECORD {
         return Ok(());
     }
-    table::row(rt, b"record          ", lent.len() as u64, b" bytes\n")?;
-    if lent.len() < 8 {
-        return Ok(());
-    }
-    table::row(rt, b"sequence offset ", types::number_at(lent, 4, 2), b"\n")?;
-    table::row(rt, b"sequence count  ", types::number_at(lent, 6, 2), b"\n")
+    println!(rt; "sequence offset {:>21}", types::number_at(bytes, 4, 2))?;
+    println!(rt; "sequence count  {:>21}", types::number_at(bytes, 6, 2))
 }
 
-// Each byte that the repair changed.
-fn ends(rt: &impl Print, after: &[u8], before: &[u8; 4097]) -> io::Result<()> {
-    for i in 0..4097 {
-        if i < after.len() {
-            if before[i] != after[i] {
-                changed(rt, i, before[i], after[i])?;
-            }
+/// Each byte that the repair changed.
+fn changes(rt: &impl Print, before: &[u8], after: &[u8]) -> io::Result<()> {
+    for (at, (was, is)) in before.iter().zip(after).enumerate() {
+        if was != is {
+            println!(rt; "byte            {at:>21} was {was:02x}, is {is:02x}")?;
         }
     }
     Ok(())
-}
-
-fn changed(rt: &impl Print, at: usize, from: u8, to: u8) -> io::Result<()> {
-    table::row(rt, b"byte            ", at as u64, b" was ")?;
-    let n = types::wide(from);
-    print!(rt; "{n:02x}")?;
-    say(rt, b", is ")?;
-    let n = types::wide(to);
-    print!(rt; "{n:02x}")?;
-    say(rt, b"\n")
 }

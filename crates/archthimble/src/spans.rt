@@ -1,159 +1,131 @@
-// `archthimble spans`: where a stretch of the stream lies, span by span, and a bar over it.
-use crate::{names, runs, table, text, words};
-use non_resident::{By, From, Outcome, Reader, Sought};
-use std::env::Env;
+//! `archthimble spans`: where a stretch of the stream lies, span by span, and a bar over it.
+use crate::runs::Bar;
+use crate::table::{Spot, explain};
+use crate::words;
+use crate::words::Word;
+use data_runs::Place;
+use non_resident::{Reader, Whence};
+use refusal::Refusal;
 use std::io;
-use text::say;
 
-// How far the reading has come: the reader, the bytes still wanted, and whether the last read gave any.
-#[derive(Clone, Copy)]
-struct Walk {
-    reader: Reader,
-    wanted: u64,
-    more: bool,
+/// How many spans a read has room for, of three words each.
+const SPANS: usize = 10;
+
+/// What is to be read: so many bytes from an offset on, in a stream of a size.
+#[derive(Clone, Copy, Debug)]
+struct Stretch {
+    cluster: u64,
+    size: u64,
+    offset: u64,
+    length: u64,
 }
 
-// List B read as in case C4 of the scope of work.
+impl Stretch {
+    fn of(numbers: [Option<u64>; 4]) -> Option<Stretch> {
+        let [cluster, size, offset, length] = numbers;
+        Some(Stretch {
+            cluster: cluster?,
+            size: size?,
+            offset: offset?,
+            length: length?,
+        })
+    }
+
+    /// A reader that stands at the offset.
+    fn reader(self, list: &[u8]) -> Result<Reader, Refusal> {
+        let reader = Reader::open(list, self.cluster, self.size)?;
+        reader.seek(list, Whence::Start, i128::from(self.offset))
+    }
+}
+
 pub fn sample(rt: &impl Print) -> io::Result<()> {
     let list = b"\x11\x02\x0a\x11\x01\xfe\x01\x03\x11\x02\x05\x00";
-    say(
-        rt,
-        b"Bytes 900 to 1899 of a stream, as its run list places them ('archthimble help' says what else there is):\n\n",
+    println!(rt;
+        "Bytes 900 to 1899 of a stream, as its run list places them ('archthimble help' says what else there is):\n"
     )?;
-    show(rt, list, 512, 4000, 900, 1000)
-}
-
-pub fn typed(rt: &(impl Print + Env)) -> io::Result<()> {
-    let mut list = [0u8; 4096];
-    let got = words::list(rt, &mut list)?;
-    let cluster = words::typed(rt, 3)?;
-    let size = words::typed(rt, 4)?;
-    let offset = words::typed(rt, 5)?;
-    let length = words::typed(rt, 6)?;
-    if got.good {
-        if words::all_good(cluster, size, offset, length) {
-            part(
-                rt,
-                &list,
-                got.n,
-                cluster.value,
-                size.value,
-                offset.value,
-                length.value,
-            )?;
-        }
-    }
-    Ok(())
-}
-
-fn part(
-    rt: &impl Print,
-    list: &[u8],
-    n: usize,
-    cluster: u64,
-    size: u64,
-    offset: u64,
-    length: u64,
-) -> io::Result<()> {
-    if n <= list.len() {
-        show(rt, &list[..n], cluster, size, offset, length)?;
-    }
-    Ok(())
-}
-
-fn show(
-    rt: &impl Print,
-    list: &[u8],
-    cluster: u64,
-    size: u64,
-    offset: u64,
-    length: u64,
-) -> io::Result<()> {
-    match Reader::open(list, cluster, size) {
-        Sought::Refused(x) => names::explain(rt, x)?,
-        Sought::At(new) => match new.seek(list, From::Start, By::Unsigned(offset)) {
-            Sought::Refused(x) => names::explain(rt, x)?,
-            Sought::At(r) => read(rt, list, r, length)?,
-        },
-    }
-    Ok(())
-}
-
-// Reads on until nothing more comes: no list has more runs than bytes.
-fn read(rt: &impl Print, list: &[u8], r: Reader, length: u64) -> io::Result<()> {
-    say(rt, b"               offset                bytes  place\n")?;
-    let mut w = Walk {
-        reader: r,
-        wanted: length,
-        more: true,
+    let stretch = Stretch {
+        cluster: 512,
+        size: 4000,
+        offset: 900,
+        length: 1000,
     };
-    for _ in 0..list.len() + 1 {
-        w = onward(rt, w, list)?;
-    }
-    let end = w.reader;
-    runs::bar(rt, list, r.cluster, r.place, end.place)?;
-    missing(rt, w.wanted)
+    show(rt, list, stretch)
 }
 
-fn missing(rt: &impl Print, bytes: u64) -> io::Result<()> {
-    if 0 < bytes {
-        text::number(rt, bytes)?;
-        say(
-            rt,
-            b" bytes more were asked for, but the runs or the data end here.\n",
-        )?;
-    }
-    Ok(())
-}
-
-fn onward(rt: &impl Print, w: Walk, list: &[u8]) -> io::Result<Walk> {
-    if !w.more {
-        return Ok(w);
-    }
-    let mut store = [0u64; 30];
-    given(rt, w, list, &mut store)
-}
-
-fn given(rt: &impl Print, w: Walk, list: &[u8], store: &mut [u64]) -> io::Result<Walk> {
-    let r = w.reader;
-    Ok(match r.read(list, w.wanted, store) {
-        Outcome::Given(g) => {
-            lines(rt, store, g.spans, r.place, r.cluster)?;
-            let to = g.reader;
-            Walk {
-                reader: to,
-                wanted: w.wanted.wrapping_sub(g.bytes),
-                more: 0 < g.spans,
-            }
-        }
-        Outcome::Refused(x) => {
-            names::explain(rt, x)?;
-            Walk {
-                reader: r,
-                wanted: w.wanted,
-                more: false,
-            }
-        }
-    })
-}
-
-fn lines(rt: &impl Print, store: &[u64], spans: usize, from: u64, cluster: u64) -> io::Result<()> {
-    let mut offset = from;
-    for k in 0..store.len() / 3 {
-        if k < spans {
-            table::aligned(rt, offset)?;
-            table::aligned(rt, store[3 * k + 1])?;
-            place(rt, store[3 * k], store[3 * k + 2], cluster)?;
-            offset = offset.wrapping_add(store[3 * k + 1]);
-        }
-    }
-    Ok(())
-}
-
-fn place(rt: &impl Print, position: u64, kind: u64, cluster: u64) -> io::Result<()> {
-    if kind == 1 {
-        table::on_disk(rt, position, cluster)?;
+pub fn typed(rt: &(impl Print + AllocGlobal), list: &Word, numbers: [&Word; 4]) -> io::Result<()> {
+    let list = words::list(rt, list)?;
+    let numbers = numbers.try_map(|word| words::number(rt, word))?;
+    let (Some(list), Some(stretch)) = (list, Stretch::of(numbers)) else {
         return Ok(());
+    };
+    show(rt, list.as_slice(), stretch)
+}
+
+fn show(rt: &impl Print, list: &[u8], stretch: Stretch) -> io::Result<()> {
+    match stretch.reader(list) {
+        Ok(reader) => read(rt, list, reader, stretch.length),
+        Err(refusal) => explain(rt, refusal),
     }
-    say(rt, b"  hole\n")
+}
+
+fn read(rt: &impl Print, list: &[u8], reader: Reader, length: u64) -> io::Result<()> {
+    println!(rt; "               offset                bytes  place")?;
+    let (end, missing) = table(rt, list, reader, length)?;
+    let bar = Bar {
+        list,
+        cluster: reader.cluster,
+        from: reader.place,
+        to: end.place,
+    };
+    println!(rt; "{bar}")?;
+    if missing > 0 {
+        println!(rt; "{missing} bytes more were asked for, but the runs or the data end here.")?;
+    }
+    Ok(())
+}
+
+/// Reads on until nothing more comes, a line for each span: no list has more runs than bytes. Answers the reader behind
+/// the last span, and how many of the bytes that were asked for are missing.
+fn table(rt: &impl Print, list: &[u8], reader: Reader, length: u64) -> io::Result<(Reader, u64)> {
+    let mut reader = reader;
+    let mut missing = length;
+    for _ in 0..=list.len() {
+        let mut store = [0; 3 * SPANS];
+        match reader.read(list, missing, &mut store) {
+            Ok(reading) => {
+                lines(rt, &store, reading.spans, reader)?;
+                reader = reading.reader;
+                missing = missing.wrapping_sub(reading.bytes);
+                if reading.spans == 0 {
+                    break;
+                }
+            }
+            Err(refusal) => {
+                explain(rt, refusal)?;
+                break;
+            }
+        }
+    }
+    Ok((reader, missing))
+}
+
+fn lines(rt: &impl Print, store: &[u64], spans: usize, reader: Reader) -> io::Result<()> {
+    let mut offset = reader.place;
+    let (triples, _) = store.as_chunks::<3>();
+    for [position, size, kind] in triples.iter().take(spans) {
+        // a store holds words: a kind is 1 on the disk and 0 in a hole
+        let place = match kind {
+            1 => Place::Disk(*position),
+            _ => Place::Hole,
+        };
+        println!(rt;
+            "{offset:>21}{size:>21}  {}",
+            Spot {
+                place,
+                cluster: reader.cluster
+            }
+        )?;
+        offset = offset.wrapping_add(*size);
+    }
+    Ok(())
 }

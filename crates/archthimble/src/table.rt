@@ -1,44 +1,54 @@
-// Numbers that line up in a column, and sizes and places in bytes and in clusters.
-use crate::text;
-use std::io;
-use text::{number, say};
+//! Refusals, and sizes and places in bytes and in clusters.
+use data_runs::Place;
+use refusal::{Numbered, Refusal};
+use std::{fmt, io};
 
-// A number at the right of 21 places, one more than the longest has.
-pub fn aligned(rt: &impl Print, n: u64) -> io::Result<()> {
-    print!(rt; "{n:>21}")
+/// Says a refusal by its number and values, and what they mean.
+pub fn explain(rt: &impl Print, refusal: Refusal) -> io::Result<()> {
+    println!(rt; "{}\n{refusal}", Numbered(refusal))
 }
 
-// A name, a number in its column, and what follows it.
-pub fn row(rt: &impl Print, name: &[u8], n: u64, unit: &[u8]) -> io::Result<()> {
-    say(rt, name)?;
-    aligned(rt, n)?;
-    say(rt, unit)
+/// So many bytes as clusters and the bytes over them. No cluster size that was accepted is 0.
+#[derive(Clone, Copy, Debug)]
+pub struct Clusters {
+    pub bytes: u64,
+    pub cluster: u64,
 }
 
-// So many bytes as clusters and the bytes over them.
-pub fn clusters(rt: &impl Print, bytes: u64, cluster: u64) -> io::Result<()> {
-    if cluster == 0 {
-        return Ok(());
+impl fmt::Display for Clusters {
+    fn fmt<W: fmt::Write>(&self, f: &mut fmt::Formatter<W>) -> fmt::Result {
+        let Clusters { bytes, cluster } = *self;
+        if cluster == 0 {
+            return Ok(());
+        }
+        write!(
+            f,
+            "{bytes} bytes = {} x {cluster} + {}",
+            bytes / cluster,
+            bytes % cluster
+        )
     }
-    number(rt, bytes)?;
-    say(rt, b" bytes = ")?;
-    number(rt, bytes / cluster)?;
-    say(rt, b" x ")?;
-    number(rt, cluster)?;
-    say(rt, b" + ")?;
-    number(rt, bytes % cluster)
 }
 
-// A byte of the disk, and how far in which cluster it lies.
-pub fn on_disk(rt: &impl Print, position: u64, cluster: u64) -> io::Result<()> {
-    if cluster == 0 {
-        return Ok(());
+/// A hole, or a byte of the disk and how far in which cluster it lies.
+#[derive(Clone, Copy, Debug)]
+pub struct Spot {
+    pub place: Place,
+    pub cluster: u64,
+}
+
+impl fmt::Display for Spot {
+    fn fmt<W: fmt::Write>(&self, f: &mut fmt::Formatter<W>) -> fmt::Result {
+        let cluster = self.cluster;
+        match self.place {
+            Place::Hole => write!(f, "hole"),
+            Place::Disk(_) if cluster == 0 => Ok(()),
+            Place::Disk(byte) => write!(
+                f,
+                "byte {byte} = LCN {} + {}",
+                byte / cluster,
+                byte % cluster
+            ),
+        }
     }
-    say(rt, b"  byte ")?;
-    number(rt, position)?;
-    say(rt, b" = LCN ")?;
-    number(rt, position / cluster)?;
-    say(rt, b" + ")?;
-    number(rt, position % cluster)?;
-    say(rt, b"\n")
 }

@@ -1,2 +1,2 @@
-mod Sign
-mod Fields
+pub mod First
+pub mod Limits

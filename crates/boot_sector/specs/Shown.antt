@@ -1,13 +1,10 @@
 -- This crate's answer in the format's terms; no two answers are shown alike.
-use Rattle.std.specs.Prelude.{ℕ, ◌≤◌, ◌≡◌, refl}
+use Rattle.std.specs.Prelude.{◌≡◌, refl, Result, Ok, Err}
 use Rattle.std.proofs.Common.{sym, ap, ◌∙◌}
 use Rattle.format.specs.Boot.{Geometry as G, Boot as B}
-use Rattle.types.specs.declared.Word.{Word}
-use Rattle.types.specs.declared.Word.TheVariants.{Is, Out}
+use Rattle.refusal.specs.declared.Refusal.{Refusal}
 use Rattle.refusal.specs.Refusals.{number, values, refusal_back, refusal_restored}
 use Rattle.boot_sector.specs.declared.Geometry.{Geometry}
-use Rattle.boot_sector.specs.declared.Boot.{Boot}
-use Rattle.boot_sector.specs.declared.Boot.TheVariants as A
 
 abbrev pub shown_geometry : Geometry → G
 shown_geometry g =
@@ -22,14 +19,9 @@ shown_geometry g =
       serial = g.serial;
     }
 
-abbrev pub shown : Boot → B
-shown (A.Read g) = B.geometry (shown_geometry g)
-shown (A.Refused x) = B.refused (number x) (values x)
-
--- a number that is at most n, where it is one
-abbrev pub AtMost : ℕ → Word → Type 0
-AtMost n (Is x) = x ≤ n
-AtMost n Out = Unit {0}
+abbrev pub shown : Result Geometry Refusal → B
+shown (Ok g) = B.geometry (shown_geometry g)
+shown (Err why) = B.refused (number why) (values why)
 
 -- the answer back from what is shown
 pub geometry_back : G → Geometry
@@ -45,14 +37,14 @@ geometry_back g =
       serial = g.serial;
     }
 
-pub back : B → Boot
-back (B.geometry g) = A.Read (geometry_back g)
-back (B.refused k vs) = A.Refused (refusal_back k vs)
+pub back : B → Result Geometry Refusal
+back (B.geometry g) = Ok (geometry_back g)
+back (B.refused k vs) = Err (refusal_back k vs)
 
-pub back_shown : (x : Boot) → back (shown x) ≡ x
+pub back_shown : (x : Result Geometry Refusal) → back (shown x) ≡ x
 unfolding back geometry_back
-back_shown (A.Read g) = refl
-back_shown (A.Refused x) = rw (refusal_restored x)
+back_shown (Ok g) = refl
+back_shown (Err why) = rw (refusal_restored why)
 
-pub shown_injective : (x y : Boot) → shown x ≡ shown y → x ≡ y
+pub shown_injective : (x y : Result Geometry Refusal) → shown x ≡ shown y → x ≡ y
 shown_injective x y e = sym (back_shown x) ∙ ap back e ∙ back_shown y

@@ -1,180 +1,152 @@
-// The geometry of a disk, read from its boot sector with refusals 1 to 7.
+//! The geometry of a disk, read from its boot sector.
 #![tactic(auto)]
 
-ghost use Rattle.std.specs.Prelude.{◌≡◌, ◌≤◌, ◌^◌, length, pos};
-ghost use Rattle.format.specs.Number.{twos, Word as Number-as-Word};
-ghost use Rattle.format.specs.Number.Word.{word};
-ghost use Rattle.format.specs.Boot.{boot, clustered, marked, record_size_of, sectors_of, sectored, recorded};
-ghost use Rattle.types.specs.Shown.{shown_word, to_ℤ};
-ghost use Rattle.boot_sector.specs.Shown.{shown, AtMost};
+ghost use Rattle.std.specs.Prelude.{◌≡◌, ◌≤◌, IfSome};
+ghost use Rattle.format.specs.Boot.{boot, clustered, record_size_of, sectors_of};
+ghost use Rattle.boot_sector.specs.Shown.{shown};
 
 use refusal::Refusal;
-use types::{Delta, Word};
 
-#[derive(Clone, Copy)]
+/// What a boot sector says of its disk.
+#[derive(Clone, Copy, Debug, PartialEq, Eq)]
 pub struct Geometry {
+    /// Bytes in a sector: 512, 1024, 2048 or 4096.
     pub sector_size: u64,
+    /// Bytes in a cluster: a power of two from 512 to 2,097,152.
     pub cluster_size: u64,
+    /// Sectors on the disk.
     pub total_sectors: u64,
+    /// The LCN at which the MFT starts, never 0.
     pub mft_lcn: u64,
+    /// The LCN at which the MFT's mirror starts.
     pub mirror_lcn: u64,
+    /// Bytes in a file record.
     pub record_size: u64,
-    // handed on as it stands, unjudged
+    /// What the sector says of the size of an index record, as it stands and not judged.
     pub index_info: i8,
+    /// The volume's serial number.
     pub serial: u64,
 }
 
-#[derive(Clone, Copy)]
-pub enum Boot {
-    Read(Geometry),
-    Refused(Refusal),
-}
-
 impl Geometry {
+    /// Bytes in a boot sector.
     pub const LENGTH: usize = 512;
 
+    /// The least sector size, in bytes.
     pub const MIN_SECTOR_SIZE: u64 = 512;
 
+    /// The greatest sector size, in bytes.
     pub const MAX_SECTOR_SIZE: u64 = 4096;
 
+    /// The least cluster size, in bytes.
     pub const MIN_CLUSTER_SIZE: u64 = 512;
 
+    /// The greatest cluster size, in bytes.
     pub const MAX_CLUSTER_SIZE: u64 = 2_097_152;
 
-    // sectors per cluster: as they stand, or as an exponent
+    /// The most sectors per cluster that stand as they are.
     pub const MAX_PLAIN_SECTORS: u64 = 128;
 
+    /// The greatest exponent that stands for sectors per cluster: 2 to the power 12 of them.
     pub const MAX_SECTORS_EXPONENT: u64 = 12;
 
+    /// The least exponent that stands for a file record's size: 2 to the power 10 bytes.
     pub const MIN_RECORD_EXPONENT: u64 = 10;
 
+    /// The greatest exponent that stands for a file record's size: 2 to the power 12 bytes.
     pub const MAX_RECORD_EXPONENT: u64 = 12;
 
-    // Reads a boot sector; bytes past the first 512 are ignored.
-    pub fn read(sector: &[u8]) -> Boot
+    /// Reads a boot sector; bytes past the first 512 are ignored.
+    ///
+    /// Refused is, in this order: `Short`, fewer than 512 bytes; `Mark`, bytes 510 and 511 that aren't 55 AA in hex;
+    /// `PerCluster`, a byte 13 that stands for no sectors per cluster; `SectorSize`, a sector that isn't a power of two
+    /// from 512 to 4,096 bytes; `ClusterSize`, a cluster of fewer than 512 or more than 2,097,152 bytes; `MftLcn`, an
+    /// MFT at LCN 0; `RecordInfo`, a byte 64 that stands for no file record size.
+    #[tactic(auto, using(crate::proofs::First::boot_first), unfolding(format::specs::Boot::boot, format::specs::Pick::pick))]
+    pub fn read(sector: &[u8]) -> Result<Geometry, Refusal>
         ensures { shown result ≡ boot sector.now }
     {
-        if sector.len() < Self::LENGTH {
-            return Boot::Refused(Refusal::Short);
-        }
-        let a = sector[510];
-        let b = sector[511];
-        if !is_marked(a, b) {
-            return Boot::Refused(Refusal::Mark(a, b));
-        }
-        let per_cluster = sector[13];
-        match Self::sectors(per_cluster) {
-            Word::Out => Boot::Refused(Refusal::PerCluster(per_cluster)),
-            Word::Is(n) => Self::with_sectors(sector, n),
-        }
+        let sector = sector.first_chunk().ok_or(Refusal::Short)?;
+        Self::from_sector(sector)
     }
 
-    // Sectors per cluster.
-    fn sectors(byte: u8) -> Word
-        ensures { (shown_word result ≡ sectors_of byte) × AtMost 4096 result }
+    /// What a whole boot sector says.
+    #[tactic(auto, using(crate::proofs::Limits::small_product), unfolding(format::specs::Boot::boot, format::specs::Boot::marked, format::specs::Pick::pick))]
+    fn from_sector(sector: &[u8; Self::LENGTH]) -> Result<Geometry, Refusal>
+        ensures { shown result ≡ boot sector.now }
     {
-        let b = types::wide(byte);
-        if types::in_range(1, Self::MAX_PLAIN_SECTORS, b) {
-            if types::power_of_two(b) {
-                return Word::Is(b);
-            }
-            return Word::Out;
+        let (first, second) = (sector[510], sector[511]);
+        if [first, second] != [0x55, 0xaa] {
+            return Err(Refusal::Mark { first, second });
         }
-        if types::in_range(256 - Self::MAX_SECTORS_EXPONENT, 255, b) {
-            return Word::Is(power(256 - b));
-        }
-        Word::Out
-    }
-
-    // With n sectors per cluster: 4, 5, then the rest.
-    fn with_sectors(sector: &[u8], n: u64) -> Boot
-        requires { (512 ≤ length sector.now) × (n ≤ 4096) }
-        ensures { shown result ≡ sectored sector.now (word n) }
-    {
+        let byte = sector[13];
+        let sectors = Self::sectors_per_cluster(byte).ok_or(Refusal::PerCluster { byte })?;
         let size = types::number_at(sector, 11, 2);
         if !types::power_between(Self::MIN_SECTOR_SIZE, Self::MAX_SECTOR_SIZE, size) {
-            return Boot::Refused(Refusal::SectorSize(size));
+            return Err(Refusal::SectorSize { size });
         }
-        let cluster = n * size;
+        let cluster = sectors * size;
         if !types::in_range(Self::MIN_CLUSTER_SIZE, Self::MAX_CLUSTER_SIZE, cluster) {
-            return Boot::Refused(Refusal::ClusterSize(cluster));
+            return Err(Refusal::ClusterSize { size: cluster });
         }
         Self::with_cluster(sector, cluster)
     }
 
-    // With a cluster size: 6, 7, then all that the sector says.
-    fn with_cluster(sector: &[u8], cluster: u64) -> Boot
-        requires { 512 ≤ length sector.now }
+    /// Sectors per cluster: a power of two from 1 to 128 as it stands, or 2 to the power 256 - byte from 244 on.
+    #[tactic(auto, using(crate::proofs::Limits::small_power), unfolding(format::specs::Boot::sectors_of, format::specs::Number::between, format::specs::Pick::pick))]
+    fn sectors_per_cluster(byte: u8) -> Option<u64>
+        ensures sectors { result ≡ sectors_of byte }
+        ensures bounded { IfSome result (λ n. n ≤ 4096) }
+    {
+        let number = u64::from(byte);
+        if (1..=Self::MAX_PLAIN_SECTORS).contains(&number) {
+            return types::power_of_two(number).then_some(number);
+        }
+        let exponent = 256 - number;
+        if exponent <= Self::MAX_SECTORS_EXPONENT {
+            return Some(1 << exponent);
+        }
+        None
+    }
+
+    /// What a sector says once its cluster size in bytes is known.
+    #[tactic(auto, unfolding(format::specs::Boot::clustered, format::specs::Number::twos, format::specs::Pick::pick))]
+    fn with_cluster(sector: &[u8; Self::LENGTH], cluster: u64) -> Result<Geometry, Refusal>
         ensures { shown result ≡ clustered sector.now cluster }
     {
         let mft_lcn = types::number_at(sector, 48, 8);
         if mft_lcn == 0 {
-            return Boot::Refused(Refusal::MftLcn);
+            return Err(Refusal::MftLcn);
         }
-        let info = sector[64];
-        match Self::record_size_of(types::extended(types::wide(info), 1), cluster) {
-            Word::Out => Boot::Refused(Refusal::RecordInfo(signed(info), cluster)),
-            Word::Is(record_size) => Boot::Read(Geometry {
-                sector_size: types::number_at(sector, 11, 2),
-                cluster_size: cluster,
-                total_sectors: types::number_at(sector, 40, 8),
-                mft_lcn,
-                mirror_lcn: types::number_at(sector, 56, 8),
-                record_size,
-                index_info: signed(sector[68]),
-                serial: types::number_at(sector, 72, 8),
-            }),
-        }
+        let info = sector[64].cast_signed();
+        let record_size = Self::record_size(info, cluster).ok_or(Refusal::RecordInfo {
+            info,
+            cluster,
+        })?;
+        Ok(Geometry {
+            sector_size: types::number_at(sector, 11, 2),
+            cluster_size: cluster,
+            total_sectors: types::number_at(sector, 40, 8),
+            mft_lcn,
+            mirror_lcn: types::number_at(sector, 56, 8),
+            record_size,
+            index_info: sector[68].cast_signed(),
+            serial: types::number_at(sector, 72, 8),
+        })
     }
 
-    // The rule for the file record size.
-    fn record_size_of(info: Delta, cluster: u64) -> Word
-        ensures { shown_word result ≡ record_size_of (to_ℤ info) cluster }
+    /// Bytes in a file record: so many clusters where the info is above 0; 2 to the power 10, 11, 12 at -10, -11, -12.
+    #[tactic(auto, unfolding(format::specs::Boot::record_size_of, format::specs::Number::between, format::specs::Number::within, format::specs::Pick::pick))]
+    fn record_size(info: i8, cluster: u64) -> Option<u64>
+        ensures { result ≡ record_size_of info cluster }
     {
-        match info {
-            Delta::Up(n) => {
-                if n == 0 {
-                    return Word::Out;
-                }
-                types::times(n, cluster)
-            }
-            Delta::Down(n) => {
-                if Self::MAX_RECORD_EXPONENT <= n {
-                    return Word::Out;
-                }
-                if types::in_range(Self::MIN_RECORD_EXPONENT, Self::MAX_RECORD_EXPONENT, n + 1) {
-                    return Word::Is(power(n + 1));
-                }
-                Word::Out
-            }
+        let number = u64::from(info.unsigned_abs());
+        if info > 0 {
+            return cluster.checked_mul(number);
         }
-    }
-}
-
-// Two to a small power.
-fn power(k: u64) -> u64
-    requires { k ≤ 12 }
-    ensures { (result ≡ 2 ^ k) × (result ≤ 4096) }
-{
-    1 << k
-}
-
-fn is_marked(a: u8, b: u8) -> bool
-    ensures { result ≡ marked a b }
-{
-    if a != 0x55 {
-        return false;
-    }
-    b == 0xaa
-}
-
-// The signed number of one byte.
-fn signed(byte: u8) -> i8
-    ensures { result ≡ twos 1 byte }
-{
-    if byte < 128 {
-        byte as i8
-    } else {
-        -((255 - byte) as i8) - 1
+        if (Self::MIN_RECORD_EXPONENT..=Self::MAX_RECORD_EXPONENT).contains(&number) {
+            return Some(1 << number);
+        }
+        None
     }
 }

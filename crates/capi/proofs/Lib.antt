@@ -1,2 +1,3 @@
-mod Fit
+pub mod Fit
 pub mod Packed
+pub mod Told

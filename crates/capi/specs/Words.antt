@@ -1,10 +1,9 @@
--- What the calls for C answer, in words: each answer of the definitions as a number (0 accepted, otherwise the refusal's) and eight words,
--- and a reader as sixteen.
-use Rattle.std.specs.Prelude.{ℕ, ◌-◌, Bool, false, not, List, [], ◌∷◌, length, get_or, ltb, eqb, ℤ, pos, negsuc}
+-- What the calls for C answer, in words: each answer of the definitions as a number (0 accepted, otherwise the
+-- refusal's) and eight words, and a reader as sixteen.
+use Rattle.std.specs.Prelude.{◌≡◌, ℕ, ◌-◌, Bool, false, not, List, [], ◌∷◌, length, get_or, ltb, eqb, ℤ, pos, negsuc}
+use Rattle.std.specs.Prelude.{None, Option, Some}
 use Rattle.std.proofs.lemmas.List.Edits.{sets}
 use Rattle.format.specs.Pick.{pick}
-use Rattle.format.specs.Number.{Word}
-use Rattle.format.specs.Number.Word.{word, outside}
 use Rattle.format.specs.Boot.{Boot as B}
 use Rattle.format.specs.Record.{Repair as R}
 use Rattle.format.specs.Runs.{Place, Step}
@@ -12,11 +11,10 @@ use Rattle.format.specs.Runs.Place.{disk, hole}
 use Rattle.format.specs.Runs.Step.{over, found, faulty}
 use Rattle.format.specs.Listed.{Answer, Where as W}
 use Rattle.format.specs.Listed.Answer.{given, refused}
-use Rattle.format.specs.Reader.{Current, From, Position}
-use Rattle.format.specs.Reader.Current.{none, some}
+use Rattle.format.specs.Reader.{Current, From, Reading, Position}
 use Rattle.format.specs.Reader.From.{from_start, from_place, from_end}
 use Rattle.format.specs.Reader.Position.{at_byte, nowhere}
-use Rattle.format.specs.Calls.{Held, Count, position, kind}
+use Rattle.format.specs.Calls.{Held, Count, counted, held, stored, position, kind}
 
 pub record Told : Type 0 where
   pub number : ℕ
@@ -46,12 +44,13 @@ abbrev pub refusal : ℕ → List ℤ → Told
 refusal k vs = record { number = k; words = valued vs }
 
 -- THE ANSWERS.
-abbrev pub tell_word : Word → Told
-tell_word (word n) = accepted (two 1 n)
-tell_word outside = accepted zeros
+abbrev pub tell_word : Option ℕ → Told
+tell_word (Some n) = accepted (two 1 n)
+tell_word None = accepted zeros
 
 abbrev pub tell_boot : B → Told
-tell_boot (B.geometry g) = accepted (g.sector ∷ g.cluster ∷ g.sectors ∷ g.mft ∷ g.mirror ∷ g.record_size ∷ bits g.index_info ∷ g.serial ∷ [])
+tell_boot (B.geometry g) =
+    accepted (g.sector ∷ g.cluster ∷ g.sectors ∷ g.mft ∷ g.mirror ∷ g.record_size ∷ bits g.index_info ∷ g.serial ∷ [])
 tell_boot (B.refused k v) = refusal k v
 
 abbrev pub tell_repair : R → Told
@@ -104,8 +103,8 @@ answered ok t = pick ok t.number short
 abbrev pub written : Bool → List ℕ → Told → List ℕ
 written ok out t = pick ok (sets out 0 t.words) out
 
--- A READER as sixteen words: cluster size, cursor, previous LCN, current run (0 none, 1 on the disk, 2 a hole), its size, its place,
--- displacement, place, data size, and seven to spare.
+-- A READER as sixteen words: cluster size, cursor, previous LCN, current run (0 none, 1 on the disk, 2 a hole), its
+-- size, its place, displacement, place, data size, and seven to spare.
 abbrev pub both_fit : List ℕ → List ℕ → Bool
 both_fit reader out = pick (ltb (length reader) 16) false (fits out)
 
@@ -114,22 +113,23 @@ run_kind (disk p) = 1
 run_kind hole = 2
 
 abbrev pub current_kind : Current → ℕ
-current_kind none = 0
-current_kind (some r) = run_kind r.place
+current_kind None = 0
+current_kind (Some r) = run_kind r.place
 
 abbrev pub current_size : Current → ℕ
-current_size none = 0
-current_size (some r) = r.size
+current_size None = 0
+current_size (Some r) = r.size
 
 abbrev pub current_place : Current → ℕ
-current_place none = 0
-current_place (some r) = position r.place
+current_place None = 0
+current_place (Some r) = position r.place
 
 abbrev pub packed_as : ℕ → ℕ → ℕ → Held → List ℕ
 packed_as kind size place h =
     let r = h.reader in
     let s = r.stand in
-    h.cluster ∷ s.cursor ∷ s.lcn ∷ kind ∷ size ∷ place ∷ s.displacement ∷ r.place ∷ r.size ∷ 0 ∷ 0 ∷ 0 ∷ 0 ∷ 0 ∷ 0 ∷ 0 ∷ []
+    h.cluster ∷ s.cursor ∷ s.lcn ∷ kind ∷ size ∷ place ∷ s.displacement ∷ r.place ∷ r.size
+    ∷ 0 ∷ 0 ∷ 0 ∷ 0 ∷ 0 ∷ 0 ∷ 0 ∷ []
 
 abbrev pub packed : Held → List ℕ
 packed h =
@@ -137,14 +137,22 @@ packed h =
     packed_as (current_kind c) (current_size c) (current_place c) h
 
 abbrev pub current_of : ℕ → ℕ → ℕ → Current
-current_of k size place = pick (eqb k 0) none (pick (eqb k 1) (some (record { size = size; place = disk place })) (some (record { size = size; place = hole })))
+current_of k size place =
+    pick (eqb k 0) None
+    (pick (eqb k 1) (Some (record { size = size; place = disk place }))
+    (Some (record { size = size; place = hole })))
 
 unfoldable pub held_of : List ℕ → Held
 held_of ws =
     record {
       cluster = get_or ws 0 0;
       reader = record {
-        stand = record { cursor = get_or ws 1 0; lcn = get_or ws 2 0; current = current_of (get_or ws 3 0) (get_or ws 4 0) (get_or ws 5 0); displacement = get_or ws 6 0 };
+        stand = record {
+          cursor = get_or ws 1 0;
+          lcn = get_or ws 2 0;
+          current = current_of (get_or ws 3 0) (get_or ws 4 0) (get_or ws 5 0);
+          displacement = get_or ws 6 0;
+        };
         place = get_or ws 7 0;
         size = get_or ws 8 0;
       };
@@ -158,3 +166,30 @@ reader_left ws (refused k v) = ws
 -- Where from: 0 the start, 1 the place, any other number the end.
 abbrev pub from_of : ℕ → From
 from_of n = pick (eqb n 0) from_start (pick (eqb n 1) from_place from_end)
+
+-- THE PROMISES, of stores of any length. Each says of the number n that a call answers, and of what it leaves of each
+-- store that it was lent (out', reader', ..), that they are what the definition's answer makes of them.
+-- Any call: what is told, where the stores are long enough.
+abbrev pub Tells : Told → Bool → List ℕ → ℕ → List ℕ → Type 0
+Tells told fit out n out' = (n ≡ answered fit told) × (out' ≡ written fit out told)
+
+-- A repair: also the record.
+abbrev pub Mends : R → List ℕ → List ℕ → ℕ → List ℕ → List ℕ → Type 0
+Mends x lent out n lent' out' =
+    let fit = fits out in
+    Tells (tell_repair x) fit out n out' × (lent' ≡ pick fit (record_left x) lent)
+
+-- An opening or a seek: also the reader.
+abbrev pub Keeps : Answer Held → List ℕ → List ℕ → ℕ → List ℕ → List ℕ → Type 0
+Keeps x reader out n reader' out' =
+    let fit = both_fit reader out in
+    Tells (tell_held x) fit out n out' × (reader' ≡ pick fit (reader_left reader x) reader)
+
+-- A read: also the reader and the store.
+abbrev pub Reads : Answer Reading → List ℕ → List ℕ → List ℕ → ℕ → List ℕ → List ℕ → List ℕ → Type 0
+Reads x reader store out n reader' store' out' =
+    let fit = both_fit reader out in
+    let c = counted (held_of reader).cluster x in
+    Tells (tell_count c) fit out n out'
+    × (reader' ≡ pick fit (reader_left reader (held c)) reader)
+    × (store' ≡ pick fit (stored store x) store)

@@ -1,115 +1,108 @@
-// A reader as sixteen words, there and back.
-ghost use Rattle.std.specs.Prelude.{◌≡◌, ◌≤◌, length};
-ghost use Rattle.std.proofs.lemmas.List.Edits.{sets};
+//! A reader as sixteen words, there and back.
+
+ghost use Rattle.std.specs.Prelude.{◌≡◌};
 ghost use Rattle.format.specs.Calls.{held};
 ghost use Rattle.non_resident.specs.Shown.{seen, shown_current, shown_from, shown_sought, shown_outcome};
-ghost use Rattle.capi.specs.Words.{packed_as, packed, current_of, held_of, reader_left, tell_held, tell_count, from_of};
-ghost use Rattle.capi.specs.Shown.{shown};
+ghost use Rattle.capi.specs.Words.{packed, current_of, held_of, from_of, tell_held, tell_count};
+ghost use Rattle.capi.specs.Shown.{shown, words_left};
 
-use crate::{answers, stores};
-use answers::Told;
-use data_runs::{Place, Run};
-use non_resident::{Current, From, Outcome, Reader, Sought};
-use stores::four;
+use crate::answers;
+use answers::{Answer, NOTHING, two};
+use data_runs::{Cursor, Place, Run};
+use non_resident::{Reader, Reading, Stand, Whence};
+use refusal::Refusal;
 
-fn current(kind: u64, size: u64, place: u64) -> Current
+/// The words of a reader.
+pub(crate) const READER: usize = 16;
+
+/// The current run of its three words; a kind over 2 is a hole as well.
+#[tactic(auto, unfolding(format::specs::Pick::pick))]
+fn current(kind: u64, size: u64, place: u64) -> Option<Run>
     ensures { shown_current result ≡ current_of kind size place }
 {
-    if kind == 0 {
-        return Current::Nothing;
-    }
-    if kind == 1 {
-        return Current::At(Run {
-            size,
-            place: Place::Disk(place),
-        });
-    }
-    Current::At(Run {
-        size,
-        place: Place::Hole,
-    })
+    let place = match kind {
+        0 => return None,
+        1 => Place::Disk(place),
+        _ => Place::Hole,
+    };
+    Some(Run { size, place })
 }
 
-pub(crate) fn unpack(ws: &[u64]) -> Reader
-    requires { 16 ≤ length ws.now }
-    ensures { seen result ≡ held_of ws.now }
+/// The reader of its words.
+#[tactic(auto, unfolding(crate::specs::Words::held_of))]
+pub(crate) fn unpack(words: &[u64; READER]) -> Reader
+    ensures { seen result ≡ held_of words.now }
 {
+    let cursor = Cursor {
+        at: words[1] as usize,
+        lcn: words[2],
+    };
     Reader {
-        cluster: ws[0],
-        cursor: ws[1] as usize,
-        lcn: ws[2],
-        current: current(ws[3], ws[4], ws[5]),
-        displacement: ws[6],
-        place: ws[7],
-        size: ws[8],
+        cluster: words[0],
+        stand: Stand {
+            cursor,
+            current: current(words[3], words[4], words[5]),
+            displacement: words[6],
+        },
+        place: words[7],
+        size: words[8],
     }
 }
 
-fn lay(ws: &mut [u64], r: Reader, kind: u64, size: u64, place: u64)
-    requires { 16 ≤ length ws.old }
-    ensures { ws.new ≡ sets ws.old 0 (packed_as kind size place (seen r)) }
+/// The words of a reader, the seven to spare 0. Where there is no current run its three words are 0.
+fn pack(reader: Reader) -> [u64; READER]
+    ensures { result ≡ packed (seen reader) }
 {
-    four(ws, 0, r.cluster, r.cursor as u64, r.lcn, kind);
-    four(ws, 4, size, place, r.displacement, r.place);
-    four(ws, 8, r.size, 0, 0, 0);
-    four(ws, 12, 0, 0, 0, 0);
+    let stand = reader.stand;
+    let (kind, size, place) = match stand.current {
+        None => (0, 0, 0),
+        Some(run) => match run.place {
+            Place::Disk(place) => (1, run.size, place),
+            Place::Hole => (2, run.size, 0),
+        },
+    };
+    let mut words = [0; READER];
+    words[..9].copy_from_slice(&[
+        reader.cluster,
+        stand.cursor.at as u64,
+        stand.cursor.lcn,
+        kind,
+        size,
+        place,
+        stand.displacement,
+        reader.place,
+        reader.size,
+    ]);
+    words
 }
 
-// One match for the three words of a current run: where there is none, nothing of it is looked at.
-fn pack(ws: &mut [u64], r: Reader)
-    requires { 16 ≤ length ws.old }
-    ensures { ws.new ≡ sets ws.old 0 (packed (seen r)) }
+/// The reader that an opening or a seek gives, into its words; a refusal leaves them.
+pub(crate) fn keep(words: &mut [u64; READER], sought: Result<Reader, Refusal>) -> Answer
+    ensures told { shown result ≡ tell_held (shown_sought sought) }
+    ensures left { words.new ≡ words_left words.old (shown_sought sought) }
 {
-    let k = r.current;
-    match k {
-        Current::Nothing => lay(ws, r, 0, 0, 0),
-        Current::At(run) => {
-            let p = run.place;
-            match p {
-                Place::Disk(at) => lay(ws, r, 1, run.size, at),
-                Place::Hole => lay(ws, r, 2, run.size, 0),
-            }
-        }
-    }
+    *words = pack(sought?);
+    Ok(NOTHING)
 }
 
-// The reader that an opening or a seek gives, into its words; a refusal leaves them.
-pub(crate) fn keep(ws: &mut [u64], x: Sought) -> Told
-    requires { 16 ≤ length ws.old }
-    ensures { (shown result ≡ tell_held (shown_sought x)) × (ws.new ≡ reader_left ws.old (shown_sought x)) }
+/// The same for a read, which tells its span count and byte count.
+pub(crate) fn keep_reading(words: &mut [u64; READER], reading: Result<Reading, Refusal>) -> Answer
+    ensures told { shown result ≡ tell_count (shown_outcome reading) }
+    ensures left { words.new ≡ words_left words.old (held (shown_outcome reading)) }
 {
-    match x {
-        Sought::At(r) => {
-            pack(ws, r);
-            answers::accepted(0, 0)
-        }
-        Sought::Refused(x) => answers::refused(x),
-    }
+    let reading = reading?;
+    *words = pack(reading.reader);
+    Ok(two(reading.spans as u64, reading.bytes))
 }
 
-// The same for a read.
-pub(crate) fn keep_count(ws: &mut [u64], x: Outcome) -> Told
-    requires { 16 ≤ length ws.old }
-    ensures { (shown result ≡ tell_count (shown_outcome x)) × (ws.new ≡ reader_left ws.old (held (shown_outcome x))) }
+/// Where a seek counts from: 0 the start, 1 the place, any other number the end.
+#[tactic(auto, unfolding(format::specs::Pick::pick))]
+pub(crate) fn whence(from: u64) -> Whence
+    ensures { shown_from result ≡ from_of from }
 {
-    match x {
-        Outcome::Given(g) => {
-            let r = g.reader;
-            pack(ws, r);
-            answers::accepted(g.spans as u64, g.bytes)
-        }
-        Outcome::Refused(x) => answers::refused(x),
+    match from {
+        0 => Whence::Start,
+        1 => Whence::Place,
+        _ => Whence::End,
     }
-}
-
-pub(crate) fn from_of(n: u64) -> From
-    ensures { shown_from result ≡ from_of n }
-{
-    if n == 0 {
-        return From::Start;
-    }
-    if n == 1 {
-        return From::Place;
-    }
-    From::End
 }

@@ -50,23 +50,23 @@ c_lookup κs a x y e e' p q = (p.0 ∙ sym q.0, p.1 ∙ sym q.1)
 
 pub c_repair : (κs : Lfts 2) (a : Dens κs c-repair-kinds.ps) (x y : (res_t c-repair-kinds.r κs).Denot) (e e' : AtExit (ended_of 2 c-repair-kinds.ps c-repair-kinds.r) κs)
     → c-repair-reads.Learnt κs a x e → c-repair-reads.Learnt κs a y e' → (x ≡ y) × (e.1.0.now ≡ e'.1.0.now) × (e.0.now ≡ e'.0.now)
-c_repair κs a x y e e' p q = (p.0 ∙ sym q.0, p.1 ∙ sym q.1, p.2 ∙ sym q.2)
+c_repair κs a x y e e' p q = (p.0.0 ∙ sym q.0.0, p.0.1 ∙ sym q.0.1, p.1 ∙ sym q.1)
 
 pub c_open : (κs : Lfts 3) (a : Dens κs c-open-kinds.ps) (x y : (res_t c-open-kinds.r κs).Denot) (e e' : AtExit (ended_of 3 c-open-kinds.ps c-open-kinds.r) κs)
     → c-open-reads.Learnt κs a x e → c-open-reads.Learnt κs a y e' → (x ≡ y) × (e.1.1.1.1.0.now ≡ e'.1.1.1.1.0.now) × (e.1.1.1.0.now ≡ e'.1.1.1.0.now)
-c_open κs a x y e e' p q = (p.0 ∙ sym q.0, p.1 ∙ sym q.1, p.2 ∙ sym q.2)
+c_open κs a x y e e' p q = (p.0.0 ∙ sym q.0.0, p.0.1 ∙ sym q.0.1, p.1 ∙ sym q.1)
 
 pub c_seek : (κs : Lfts 3) (a : Dens κs c-seek-kinds.ps) (x y : (res_t c-seek-kinds.r κs).Denot) (e e' : AtExit (ended_of 3 c-seek-kinds.ps c-seek-kinds.r) κs)
     → c-seek-reads.Learnt κs a x e → c-seek-reads.Learnt κs a y e' → (x ≡ y) × (e.1.1.1.1.0.now ≡ e'.1.1.1.1.0.now) × (e.1.0.now ≡ e'.1.0.now)
-c_seek κs a x y e e' p q = (p.0 ∙ sym q.0, p.1 ∙ sym q.1, p.2 ∙ sym q.2)
+c_seek κs a x y e e' p q = (p.0.0 ∙ sym q.0.0, p.0.1 ∙ sym q.0.1, p.1 ∙ sym q.1)
 
 pub c_seek_signed : (κs : Lfts 3) (a : Dens κs c-seek-signed-kinds.ps) (x y : (res_t c-seek-signed-kinds.r κs).Denot) (e e' : AtExit (ended_of 3 c-seek-signed-kinds.ps c-seek-signed-kinds.r) κs)
     → c-seek-signed-reads.Learnt κs a x e → c-seek-signed-reads.Learnt κs a y e' → (x ≡ y) × (e.1.1.1.1.0.now ≡ e'.1.1.1.1.0.now) × (e.1.0.now ≡ e'.1.0.now)
-c_seek_signed κs a x y e e' p q = (p.0 ∙ sym q.0, p.1 ∙ sym q.1, p.2 ∙ sym q.2)
+c_seek_signed κs a x y e e' p q = (p.0.0 ∙ sym q.0.0, p.0.1 ∙ sym q.0.1, p.1 ∙ sym q.1)
 
 pub c_read : (κs : Lfts 4) (a : Dens κs c-read-kinds.ps) (x y : (res_t c-read-kinds.r κs).Denot) (e e' : AtExit (ended_of 4 c-read-kinds.ps c-read-kinds.r) κs)
     → c-read-reads.Learnt κs a x e → c-read-reads.Learnt κs a y e' → (x ≡ y) × (e.1.1.1.1.0.now ≡ e'.1.1.1.1.0.now) × (e.1.0.now ≡ e'.1.0.now) × (e.1.1.1.0.now ≡ e'.1.1.1.0.now)
-c_read κs a x y e e' p q = (p.0 ∙ sym q.0, p.1 ∙ sym q.1, p.2 ∙ sym q.2, p.3 ∙ sym q.3)
+c_read κs a x y e e' p q = (p.0.0 ∙ sym q.0.0, p.0.1 ∙ sym q.0.1, p.1 ∙ sym q.1, p.2 ∙ sym q.2)
 
 pub c_data_position : (κs : Lfts 2) (a : Dens κs c-data-position-kinds.ps) (x y : (res_t c-data-position-kinds.r κs).Denot) (e e' : AtExit (ended_of 2 c-data-position-kinds.ps c-data-position-kinds.r) κs)
     → c-data-position-reads.Learnt κs a x e → c-data-position-reads.Learnt κs a y e' → (x ≡ y) × (e.1.0.now ≡ e'.1.0.now)

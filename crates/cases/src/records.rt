@@ -1,183 +1,87 @@
-// Record repair's cases: a sample with some bytes changed, repaired, what came of it and which bytes changed.
-use crate::text;
-use record::Repaired;
+//! Record repair's cases: a sample with some bytes changed, repaired, what came of it and which bytes changed.
+use crate::{Changes, change};
+use refusal::Numbered;
 use std::io;
-use text::{item, say};
-use types::Delta;
 
-fn put(s: &mut [u8; 4097], at: usize, value: u8) {
-    if at < 4097 {
-        s[at] = value;
-    }
-}
+/// A case: its name, how many bytes are lent, and which of the sample's are changed before.
+type Case<'a> = (&'a str, usize, Changes<'a>);
 
-// The sample record, and zeros after it.
+/// The sample record, and zeros after it.
 fn sample() -> [u8; 4097] {
-    let s = samples::record();
-    let mut out = [0u8; 4097];
-    for i in 0..1024 {
-        out[i] = s[i];
-    }
-    out
+    let mut record = [0; 4097];
+    record[..1024].copy_from_slice(&samples::record());
+    record
 }
 
-// Each byte that is not what it was.
-fn changes(rt: &impl Print, before: &[u8; 4097], after: &[u8; 4097]) -> io::Result<()> {
-    for i in 0..4097 {
-        if before[i] != after[i] {
-            changed(rt, i, after[i])?;
-        }
-    }
-    Ok(())
-}
-
-fn changed(rt: &impl Print, at: usize, value: u8) -> io::Result<()> {
-    item(rt, b";", Delta::Up(at as u64))?;
-    item(rt, b" is", Delta::Up(types::wide(value)))
-}
-
-fn told(rt: &impl Print, x: Repaired) -> io::Result<()> {
-    match x {
-        Repaired::Done => say(rt, b": repaired")?,
-        Repaired::Refused(r) => {
-            say(rt, b": ")?;
-            text::numbered(rt, r)?;
-        }
-    }
-    Ok(())
-}
-
-fn first(rt: &impl Print, s: &mut [u8], n: usize) -> io::Result<()> {
-    if n <= s.len() {
-        told(rt, record::repair(&mut s[..n]))?;
-    }
-    Ok(())
-}
-
-fn run(rt: &impl Print, name: &[u8], len: usize, before: [u8; 4097]) -> io::Result<()> {
+fn run(rt: &impl Print, (name, length, changes): Case<'_>) -> io::Result<()> {
+    let mut before = sample();
+    change(&mut before, changes);
     let mut after = before;
-    item(rt, name, Delta::Up(len as u64))?;
-    first(rt, &mut after, len)?;
-    changes(rt, &before, &after)?;
-    say(rt, b"\n")
+    print!(rt; "{name}, bytes {length}: ")?;
+    if let Some(record) = after.get_mut(..length) {
+        match record::repair(record) {
+            Ok(()) => print!(rt; "repaired")?,
+            Err(refusal) => print!(rt; "{}", Numbered(refusal))?,
+        }
+    }
+    for (at, (old, new)) in before.iter().zip(&after).enumerate() {
+        if old != new {
+            print!(rt; "; {at} is {new}")?;
+        }
+    }
+    println!(rt)
 }
 
-fn three(
-    rt: &impl Print,
-    name: &[u8],
-    len: usize,
-    at: usize,
-    a: u8,
-    by: usize,
-    b: u8,
-    to: usize,
-    c: u8,
-) -> io::Result<()> {
-    let mut s = sample();
-    put(&mut s, at, a);
-    put(&mut s, by, b);
-    put(&mut s, to, c);
-    run(rt, name, len, s)
-}
+const LENGTHS: [Case<'_>; 6] = [
+    ("record", 0, &[(0, 0)]),
+    ("record", 7, &[(0, 0)]),
+    ("offset 6, count 1", 8, &[(4, 6), (6, 1), (7, 0)]),
+    ("record", 1024, &[(0, 0)]),
+    ("record", 4096, &[(0, 0)]),
+    ("record", 4097, &[(0, 0)]),
+];
 
-fn one(rt: &impl Print, name: &[u8], len: usize, at: usize, a: u8) -> io::Result<()> {
-    three(rt, name, len, at, a, at, a, at, a)
-}
+const OFFSETS: [Case<'_>; 3] = [
+    ("offset 1022, count 1", 1024, &[(4, 0xfe), (5, 3), (6, 1)]),
+    ("offset 1023, count 1", 1024, &[(4, 0xff), (5, 3), (6, 1)]),
+    ("offset 7", 8, &[(4, 7)]),
+];
 
-fn lengths(rt: &impl Print) -> io::Result<()> {
-    one(rt, b"record, bytes", 0, 0, 0)?;
-    one(rt, b"record, bytes", 7, 0, 0)?;
-    three(rt, b"offset 6, count 1, bytes", 8, 4, 6, 6, 1, 7, 0)?;
-    one(rt, b"record, bytes", 1024, 0, 0)?;
-    one(rt, b"record, bytes", 4096, 0, 0)?;
-    one(rt, b"record, bytes", 4097, 0, 0)
-}
+/// The sequence count, and the array that it stands for.
+const COUNTS: [Case<'_>; 6] = [
+    ("count 0", 1024, &[(6, 0)]),
+    ("count 1, a wrong end", 1024, &[(6, 1), (510, 8), (511, 8)]),
+    ("offset 1018", 1024, &[(4, 0xfa), (5, 3)]),
+    ("offset 1019", 1024, &[(4, 0xfb), (5, 3)]),
+    ("count 4", 1024, &[(6, 4)]),
+    ("count 3", 1023, &[(6, 3)]),
+];
 
-fn numbers(rt: &impl Print) -> io::Result<()> {
-    three(
-        rt,
-        b"offset 1022, count 1, bytes",
+const ENDS: [Case<'_>; 4] = [
+    ("510 is 8", 1024, &[(510, 8)]),
+    ("511 is 8", 1024, &[(511, 8)]),
+    ("1022 is 8", 1024, &[(1022, 8)]),
+    ("1023 is 8", 1024, &[(1023, 8)]),
+];
+
+/// The array over a sector's end, and the number itself there.
+const OVERLAPS: [Case<'_>; 2] = [
+    (
+        "offset 506, entry 1 on the end of sector 0",
         1024,
-        4,
-        0xfe,
-        5,
-        3,
-        6,
-        1,
-    )?;
-    three(
-        rt,
-        b"offset 1023, count 1, bytes",
+        &[(4, 0xfa), (5, 1), (506, 7), (508, 0xc1), (509, 0xc2)],
+    ),
+    (
+        "offset 510, the number on the end of sector 0",
         1024,
-        4,
-        0xff,
-        5,
-        3,
-        6,
-        1,
-    )?;
-    one(rt, b"offset 7, bytes", 8, 4, 7)?;
-    counts(rt)
-}
-
-// The sequence count, and the array that it stands for.
-fn counts(rt: &impl Print) -> io::Result<()> {
-    one(rt, b"count 0, bytes", 1024, 6, 0)?;
-    three(
-        rt,
-        b"count 1, a wrong end, bytes",
-        1024,
-        6,
-        1,
-        510,
-        8,
-        511,
-        8,
-    )?;
-    three(rt, b"offset 1018, bytes", 1024, 4, 0xfa, 5, 3, 5, 3)?;
-    three(rt, b"offset 1019, bytes", 1024, 4, 0xfb, 5, 3, 5, 3)?;
-    one(rt, b"count 4, bytes", 1024, 6, 4)?;
-    one(rt, b"count 3, bytes", 1023, 6, 3)
-}
-
-fn ends(rt: &impl Print) -> io::Result<()> {
-    one(rt, b"510 is 8, bytes", 1024, 510, 8)?;
-    one(rt, b"511 is 8, bytes", 1024, 511, 8)?;
-    one(rt, b"1022 is 8, bytes", 1024, 1022, 8)?;
-    one(rt, b"1023 is 8, bytes", 1024, 1023, 8)
-}
-
-// The array over a sector's end, and the number itself there.
-fn overlaps(rt: &impl Print) -> io::Result<()> {
-    let mut s = sample();
-    put(&mut s, 4, 0xfa);
-    put(&mut s, 5, 1);
-    put(&mut s, 506, 7);
-    put(&mut s, 508, 0xc1);
-    put(&mut s, 509, 0xc2);
-    run(
-        rt,
-        b"offset 506, entry 1 on the end of sector 0, bytes",
-        1024,
-        s,
-    )?;
-    let mut t = sample();
-    put(&mut t, 4, 0xfe);
-    put(&mut t, 5, 1);
-    put(&mut t, 512, 0xd1);
-    put(&mut t, 513, 0xd2);
-    put(&mut t, 514, 0xe1);
-    run(
-        rt,
-        b"offset 510, the number on the end of sector 0, bytes",
-        1024,
-        t,
-    )
-}
+        &[(4, 0xfe), (5, 1), (512, 0xd1), (513, 0xd2), (514, 0xe1)],
+    ),
+];
 
 pub fn cases(rt: &impl Print) -> io::Result<()> {
-    lengths(rt)?;
-    numbers(rt)?;
-    ends(rt)?;
-    overlaps(rt)
+    let tables = [&LENGTHS[..], &OFFSETS, &COUNTS, &ENDS, &OVERLAPS];
+    for case in tables.into_iter().flatten() {
+        run(rt, *case)?;
+    }
+    Ok(())
 }

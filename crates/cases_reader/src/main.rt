@@ -1,119 +1,93 @@
-// What the scope of work says of the reader, run call by call: its cases C4 to C6, C15 and C16, and others beside them.
+//! What the scope of work says of the reader, run call by call: its cases C4 to C6, C15 and C16, and others beside
+//! them.
 #![tactic(auto)]
 
-mod calls;
-mod text;
+mod trial;
 mod unsound;
 
-use calls::{open, read, seek, stand};
-use non_resident::{By, From};
+use non_resident::Whence;
 use std::io;
-use text::say;
+use trial::Trial;
 
-const B: [u8; 12] = *b"\x11\x02\x0a\x11\x01\xfe\x01\x03\x11\x02\x05\x00";
+/// Two runs, a hole and a run: 1024, 512, 1536 and 1024 bytes with clusters of 512.
+const LIST: &[u8] = b"\x11\x02\x0a\x11\x01\xfe\x01\x03\x11\x02\x05\x00";
 
-const BROKEN: [u8; 4] = *b"\x11\x01\x0a\x09";
+/// A list whose second run is refused.
+const BROKEN: &[u8] = b"\x11\x01\x0a\x09";
+
+/// A list that ends before the data does.
+const SHORT: &[u8] = b"\x11\x01\x0a";
+
+// constants, so by `as`: `From` is no const function
+/// The largest u64, and the smallest i64.
+const MOST: i128 = u64::MAX as i128;
+
+const LEAST: i128 = i64::MIN as i128;
 
 fn spans(rt: &impl Print) -> io::Result<()> {
-    say(rt, b"C4\n")?;
-    let r = seek(
-        rt,
-        open(rt, &B, 512, 4000)?,
-        &B,
-        From::Start,
-        By::Unsigned(900),
-    )?;
-    let on = read(rt, r, &B, 1000, 9)?;
-    stand(rt, on)?;
-    say(rt, b"C5\n")?;
-    let end = seek(rt, on, &B, From::Start, By::Unsigned(3900))?;
-    let last = read(rt, end, &B, 500, 9)?;
-    read(rt, last, &B, 500, 9)?;
+    println!(rt; "C4")?;
+    let read = Trial::open(rt, LIST, 512, 4000)?
+        .seek(rt, Whence::Start, 900)?
+        .read(rt, 1000, 9)?;
+    read.data_position(rt)?;
+    println!(rt; "C5")?;
+    read.seek(rt, Whence::Start, 3900)?
+        .read(rt, 500, 9)?
+        .read(rt, 500, 9)?;
     Ok(())
 }
 
 fn positions(rt: &impl Print) -> io::Result<()> {
-    say(rt, b"C6\n")?;
-    stand(rt, read(rt, open(rt, &B, 512, 4000)?, &B, 1024, 9)?)?;
-    stand(
-        rt,
-        seek(
-            rt,
-            open(rt, &B, 512, 4000)?,
-            &B,
-            From::Start,
-            By::Unsigned(1024),
-        )?,
-    )
+    println!(rt; "C6")?;
+    Trial::open(rt, LIST, 512, 4000)?
+        .read(rt, 1024, 9)?
+        .data_position(rt)?;
+    Trial::open(rt, LIST, 512, 4000)?
+        .seek(rt, Whence::Start, 1024)?
+        .data_position(rt)
 }
 
 fn broken(rt: &impl Print) -> io::Result<()> {
-    say(rt, b"C15\n")?;
-    let r = read(rt, open(rt, &BROKEN, 512, 4000)?, &BROKEN, 600, 9)?;
-    let again = read(rt, r, &BROKEN, 600, 9)?;
-    seek(rt, again, &BROKEN, From::Place, By::Unsigned(0))?;
-    seek(
-        rt,
-        open(rt, &BROKEN, 512, 4000)?,
-        &BROKEN,
-        From::Start,
-        By::Unsigned(512),
-    )?;
+    println!(rt; "C15")?;
+    Trial::open(rt, BROKEN, 512, 4000)?
+        .read(rt, 600, 9)?
+        .read(rt, 600, 9)?
+        .seek(rt, Whence::Place, 0)?;
+    Trial::open(rt, BROKEN, 512, 4000)?.seek(rt, Whence::Start, 512)?;
     Ok(())
 }
 
 fn targets(rt: &impl Print) -> io::Result<()> {
-    say(rt, b"C16\n")?;
-    let r = open(rt, &B, 512, 4000)?;
-    let most = 0xffff_ffff_ffff_ffff;
-    seek(rt, r, &B, From::End, By::Signed(-9223372036854775807 - 1))?;
-    seek(rt, r, &B, From::End, By::Signed(-4001))?;
-    seek(rt, r, &B, From::End, By::Signed(-4000))?;
-    seek(rt, r, &B, From::End, By::Unsigned(most - 4000))?;
-    seek(rt, r, &B, From::End, By::Unsigned(most - 3999))?;
-    seek(rt, r, &B, From::Start, By::Signed(-1))?;
-    let there = seek(rt, r, &B, From::Start, By::Unsigned(most))?;
-    seek(rt, there, &B, From::Place, By::Signed(1))?;
-    seek(rt, there, &B, From::Place, By::Signed(-9223372036854775807))?;
-    seek(rt, there, &B, From::Place, By::Signed(0))?;
-    let hole = seek(rt, there, &B, From::Start, By::Unsigned(1600))?;
-    stand(rt, hole)?;
-    let back = seek(rt, hole, &B, From::Place, By::Signed(-600))?;
-    seek(rt, back, &B, From::Place, By::Signed(24))?;
+    println!(rt; "C16")?;
+    let opened = Trial::open(rt, LIST, 512, 4000)?;
+    for amount in [LEAST, -4001, -4000, MOST - 4000, MOST - 3999] {
+        opened.seek(rt, Whence::End, amount)?;
+    }
+    opened.seek(rt, Whence::Start, -1)?;
+    let last = opened.seek(rt, Whence::Start, MOST)?;
+    for amount in [1, LEAST + 1, 0] {
+        last.seek(rt, Whence::Place, amount)?;
+    }
+    let hole = last.seek(rt, Whence::Start, 1600)?;
+    hole.data_position(rt)?;
+    hole.seek(rt, Whence::Place, -600)?
+        .seek(rt, Whence::Place, 24)?;
     Ok(())
 }
 
 fn rooms(rt: &impl Print) -> io::Result<()> {
-    say(rt, b"room\n")?;
-    let r = seek(
-        rt,
-        open(rt, &B, 512, 4000)?,
-        &B,
-        From::Start,
-        By::Unsigned(900),
-    )?;
-    read(rt, r, &B, 1000, 2)?;
-    read(rt, r, &B, 1000, 8)?;
-    read(rt, r, &B, 0, 9)?;
-    let past = seek(rt, r, &B, From::Start, By::Unsigned(4000))?;
-    read(rt, past, &B, 1, 9)?;
-    let none = seek(
-        rt,
-        open(rt, &B, 512, 9000)?,
-        &B,
-        From::Start,
-        By::Unsigned(4096),
-    )?;
-    read(rt, none, &B, 1, 9)?;
-    let end = read(
-        rt,
-        open(rt, b"\x11\x01\x0a", 512, 9000)?,
-        b"\x11\x01\x0a",
-        600,
-        9,
-    )?;
-    stand(rt, end)?;
-    read(rt, end, b"\x11\x01\x0a", 600, 9)?;
+    println!(rt; "room")?;
+    let trial = Trial::open(rt, LIST, 512, 4000)?.seek(rt, Whence::Start, 900)?;
+    for (bytes, words) in [(1000, 2), (1000, 8), (0, 9)] {
+        trial.read(rt, bytes, words)?;
+    }
+    trial.seek(rt, Whence::Start, 4000)?.read(rt, 1, 9)?;
+    Trial::open(rt, LIST, 512, 9000)?
+        .seek(rt, Whence::Start, 4096)?
+        .read(rt, 1, 9)?;
+    let end = Trial::open(rt, SHORT, 512, 9000)?.read(rt, 600, 9)?;
+    end.data_position(rt)?;
+    end.read(rt, 600, 9)?;
     Ok(())
 }
 
@@ -123,5 +97,5 @@ fn main(rt: HostRuntime) -> io::Result<()> {
     broken(&rt)?;
     targets(&rt)?;
     rooms(&rt)?;
-    unsound::cases(&rt, &B)
+    unsound::cases(&rt, LIST)
 }

@@ -1,57 +1,60 @@
-// Readers that no call gives, each unsound in one part, and their neighbours that are not.
-use crate::{calls, text};
-use data_runs::{Place, Run};
-use non_resident::{By, Current, From, Reader};
+//! Readers that no call gives, each unsound in one part, and their neighbours that are not.
+use crate::trial::Trial;
+use data_runs::{Cursor, Place, Run};
+use non_resident::{Reader, Stand, Whence};
 use std::io;
 
-fn part(
-    rt: &impl Print,
-    list: &[u8],
-    cluster: u64,
-    cursor: usize,
-    current: Current,
-    displacement: u64,
-) -> io::Result<()> {
-    let r = Reader {
-        cluster,
-        cursor,
-        lcn: 0,
-        current,
-        displacement,
-        place: 100,
-        size: 4000,
-    };
-    calls::seek(rt, r, list, From::Place, By::Signed(0))?;
-    calls::read(rt, r, list, 10, 3)?;
-    calls::stand(rt, r)
-}
-
-fn on_disk(size: u64, place: u64) -> Current {
-    Current::At(Run {
+fn on_disk(size: u64, place: u64) -> Option<Run> {
+    Some(Run {
         size,
         place: Place::Disk(place),
     })
 }
 
-fn a_hole(size: u64) -> Current {
-    Current::At(Run {
+fn hole(size: u64) -> Option<Run> {
+    Some(Run {
         size,
         place: Place::Hole,
     })
 }
 
+fn reader(cluster: u64, at: usize, current: Option<Run>, displacement: u64) -> Reader {
+    let cursor = Cursor { at, lcn: 0 };
+    Reader {
+        cluster,
+        stand: Stand {
+            cursor,
+            current,
+            displacement,
+        },
+        place: 100,
+        size: 4000,
+    }
+}
+
+fn readers() -> [Reader; 11] {
+    [
+        reader(511, 0, None, 0),
+        reader(4194304, 0, None, 0),
+        reader(2097152, 0, None, 0),
+        reader(512, 12, None, 0),
+        reader(512, 13, None, 0),
+        reader(512, 0, None, 1),
+        reader(512, 3, on_disk(10, 0), 10),
+        reader(512, 3, on_disk(10, 0), 11),
+        reader(512, 3, on_disk(10, u64::MAX - 10), 4),
+        reader(512, 3, on_disk(10, u64::MAX - 9), 4),
+        reader(512, 3, hole(u64::MAX), 7),
+    ]
+}
+
 pub fn cases(rt: &impl Print, list: &[u8]) -> io::Result<()> {
-    let most = 0xffff_ffff_ffff_ffff;
-    text::say(rt, b"unsound\n")?;
-    part(rt, list, 511, 0, Current::Nothing, 0)?;
-    part(rt, list, 4194304, 0, Current::Nothing, 0)?;
-    part(rt, list, 2097152, 0, Current::Nothing, 0)?;
-    part(rt, list, 512, 12, Current::Nothing, 0)?;
-    part(rt, list, 512, 13, Current::Nothing, 0)?;
-    part(rt, list, 512, 0, Current::Nothing, 1)?;
-    part(rt, list, 512, 3, on_disk(10, 0), 10)?;
-    part(rt, list, 512, 3, on_disk(10, 0), 11)?;
-    part(rt, list, 512, 3, on_disk(10, most - 10), 4)?;
-    part(rt, list, 512, 3, on_disk(10, most - 9), 4)?;
-    part(rt, list, 512, 3, a_hole(most), 7)
+    println!(rt; "unsound")?;
+    for reader in readers() {
+        let trial = Trial { list, reader };
+        trial.seek(rt, Whence::Place, 0)?;
+        trial.read(rt, 10, 3)?;
+        trial.data_position(rt)?;
+    }
+    Ok(())
 }

@@ -1,11 +1,13 @@
-// What the scope of work says of run lists, run case by case: its cases C1 to C3 and C7 to C14, and each limit at both sides.
+//! What the scope of work says of run lists, run case by case: its cases C1 to C3 and C7 to C14, and each limit at both
+//! sides.
 #![tactic(auto)]
 
 mod lists;
-mod text;
+mod offsets;
 
 use std::io;
 
 fn main(rt: HostRuntime) -> io::Result<()> {
-    lists::cases(&rt)
+    lists::cases(&rt)?;
+    offsets::cases(&rt)
 }

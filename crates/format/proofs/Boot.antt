@@ -1,4 +1,5 @@
 -- Bytes past the first 512 are ignored: each field is a part of the first 512, and the length is only asked to reach 512.
+use Rattle.std.specs.Prelude.{Option, Some, None}
 use Prim.Native.Nat.{ℕ, zero, suc, ◌+◌, ◌*◌, ◌≤◌}
 use mathlib.Core.Path.{◌≡◌, refl, ap, ◌∙◌}
 use mathlib.Core.Bool.{false, not}
@@ -10,8 +11,7 @@ use lib.Seq.{get_or-take, take-take, length-take-le}
 use lib.Dec.{eqb}
 use lib.IntN.{pos}
 use Rattle.format.specs.Pick.{pick}
-use Rattle.format.specs.Number.{little, unsigned, twos, Word}
-use Rattle.format.specs.Number.Word.{word, outside}
+use Rattle.format.specs.Number.{little, unsigned, twos}
 use Rattle.format.specs.Boot.{Boot, boot, clustered, sectored, recorded, record_size_of, sectors_of, marked}
 use Rattle.format.specs.Boot.Boot.{refused}
 
@@ -28,9 +28,9 @@ unfolding unsigned
 field_past s from m n h = ap little (part_of_first s from m n h)
 
 module _ (s : List ℕ) (n : ℕ) (h : 512 ≤ n) where
-  recorded_past : (cluster : ℕ) (w : Word) → recorded (take n s) cluster w ≡ recorded s cluster w
-  recorded_past cluster outside = rw (get_or-take n s 64 0 (omega arith))
-  recorded_past cluster (word size) =
+  recorded_past : (cluster : ℕ) (w : Option ℕ) → recorded (take n s) cluster w ≡ recorded s cluster w
+  recorded_past cluster None = rw (get_or-take n s 64 0 (omega arith))
+  recorded_past cluster (Some size) =
       rw (get_or-take n s 68 0 (omega arith), field_past s 11 2 n (omega arith), field_past s 40 8 n (omega arith), field_past s 48 8 n (omega arith), field_past s 56 8 n (omega arith), field_past s 72 8 n (omega arith))
 
   clustered_past : (cluster : ℕ) → clustered (take n s) cluster ≡ clustered s cluster
@@ -39,9 +39,9 @@ module _ (s : List ℕ) (n : ℕ) (h : 512 ≤ n) where
       rw (field_past s 48 8 n (omega arith))
       (ap (pick (eqb (unsigned s 48 8) 0) (refused 6 [])) (recorded_past cluster (record_size_of (twos 1 (get_or (take n s) 64 0)) cluster) ∙ ap (λ (z : ℕ). recorded s cluster (record_size_of (twos 1 z) cluster)) (get_or-take n s 64 0 (omega arith))))
 
-  sectored_past : (w : Word) → sectored (take n s) w ≡ sectored s w
-  sectored_past outside = rw (get_or-take n s 13 0 (omega arith))
-  sectored_past (word k) = rw (field_past s 11 2 n (omega arith), clustered_past (k * unsigned s 11 2))
+  sectored_past : (w : Option ℕ) → sectored (take n s) w ≡ sectored s w
+  sectored_past None = rw (get_or-take n s 13 0 (omega arith))
+  sectored_past (Some k) = rw (field_past s 11 2 n (omega arith), clustered_past (k * unsigned s 11 2))
 
   pub past_ignored : n ≤ length s → boot (take n s) ≡ boot s
   unfolding boot

@@ -1,4 +1,5 @@
 -- Demand 3, proved. A reader with a history tracks the list (Reader) and is sound (Sound), so each of its calls is the call on a list.
+use Rattle.std.specs.Prelude.{Option, Some, None}
 use Prim.Native.Nat.{ℕ, ◌+◌, ◌-◌, ◌/◌, ◌^◌, ◌<◌}
 use mathlib.Core.Path.{◌≡◌, refl, sym, ap, subst, ◌∙◌}
 use mathlib.Core.Bool.{true, not}
@@ -7,8 +8,7 @@ use native.Mathlib.Omega.{arith}
 use lib.ListN.{length}
 use lib.IntN.{ℤ, pos, negsuc, ◌+ℤ◌}
 use Rattle.format.specs.Pick.{pick_lt, pick_no}
-use Rattle.format.specs.Number.{Word, within, within_ℤ, cluster_sound}
-use Rattle.format.specs.Number.Word.{word, outside}
+use Rattle.format.specs.Number.{within, within_ℤ, cluster_sound}
 use Rattle.format.specs.Runs.{Run, Inside}
 use Rattle.format.specs.Runs.Step.{found}
 use Rattle.format.specs.Listed.{Answer, Gives, IfGiven, then, either, RunList, run_list, Lawful, Listed, list, ToItsEnd}
@@ -28,9 +28,9 @@ use Rattle.format.proofs.Reader.{At, Outcome, runs_at_most, opened_is, seek_case
 use Rattle.format.proofs.Sound.{Good, good_sound, opened_good, seek_good, read_good}
 
 -- A target in range is in range from the start too.
-abbrev Below : Word → Type 0
-Below (word n) = n < 2 ^ 64
-Below outside = Unit {0}
+abbrev Below : Option ℕ → Type 0
+Below (Some n) = n < 2 ^ 64
+Below None = Unit {0}
 
 within_below : (z : ℤ) → Below (within_ℤ z)
 unfolding within
@@ -41,9 +41,9 @@ target_again : (b : ℕ) (a : ℤ) (t : ℕ) → target b a ≡ given t → targ
 unfolding target
 target_again b a t e = go (within_ℤ (pos b +ℤ a)) (within_below (pos b +ℤ a)) e
   where
-    go : (x : Word) → Below x → in_range x ≡ given t → in_range (within_ℤ (pos 0 +ℤ pos t)) ≡ given t
-    go (word n) h q = let f : n ≡ t = cc in rw zero-add (ap in_range (sym (within_is t (omega arith))))
-    go outside h q = cc
+    go : (x : Option ℕ) → Below x → in_range x ≡ given t → in_range (within_ℤ (pos 0 +ℤ pos t)) ≡ given t
+    go (Some n) h q = let f : n ≡ t = cc in rw zero-add (ap in_range (sym (within_is t (omega arith))))
+    go None h q = cc
 
 -- A list that decodes to its end refuses nothing.
 settle_gives : (L : RunList) (d : Listed) (n : ℕ) → ToItsEnd d → Gives (λ s. Unit) (settle L d n)

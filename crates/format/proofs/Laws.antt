@@ -1,4 +1,5 @@
 -- Reads by the turn: each span is the least of three remainders that aren't 0, and the reader then stands behind it.
+use Rattle.std.specs.Prelude.{Some, None}
 use Prim.Native.Nat.{ℕ, zero, suc, ◌+◌, ◌-◌, ◌<◌, min}
 use mathlib.Core.Path.{◌≡◌, refl, sym, ap, subst, ◌∙◌}
 use mathlib.Core.List.{List, [], ◌∷◌}
@@ -12,7 +13,6 @@ use Rattle.format.specs.Runs.Step.{over, found, faulty}
 use Rattle.format.specs.Listed.{Answer, Gives, IfGiven, either, RunList, Lawful}
 use Rattle.format.specs.Listed.Answer.{given, refused}
 use Rattle.format.specs.Reader.{Current, Stand, Reader, entered, left_of, left, forward, at, seek_to, Span, Reading, further, here, nothing, before, Turn, give, fetch, turn, follow, read, data_position, position_of}
-use Rattle.format.specs.Reader.Current.{none, some}
 use Rattle.format.specs.Reader.Turn.{stops, gives, refuses}
 use Rattle.format.specs.Reader.Position.{at_byte}
 use Rattle.format.specs.History.{total, NoneEmpty}
@@ -20,25 +20,25 @@ use Rattle.format.specs.Laws.{Summed, EveryReadSums, ReadMoves, behind, Position
 use Rattle.format.proofs.Reader.{turn_all, settle_in}
 
 -- SUMS. A turn's span isn't empty.
-abbrev Some : Turn → Type 0
-Some (stops r) = Unit {0}
-Some (gives x r) = 0 < x.length
-Some (refuses k v) = Unit {0}
+abbrev Moving : Turn → Type 0
+Moving (stops r) = Unit {0}
+Moving (gives x r) = 0 < x.length
+Moving (refuses k v) = Unit {0}
 
 module _ (L : RunList) (good : Lawful L) where
-  give_some : (w : ℕ) (r : Reader) (s : Stand) → 0 < w → r.place < r.size → 0 < left s → Some (give w r s)
+  give_some : (w : ℕ) (r : Reader) (s : Stand) → 0 < w → r.place < r.size → 0 < left s → Moving (give w r s)
   unfolding give
   give_some w r s hw hp hl = omega arith
 
-  fetch_some : (w : ℕ) (r : Reader) (a l : ℕ) (x : Step) → L.step a l ≡ x → 0 < w → r.place < r.size → Some (fetch L w r x)
+  fetch_some : (w : ℕ) (r : Reader) (a l : ℕ) (x : Step) → L.step a l ≡ x → 0 < w → r.place < r.size → Moving (fetch L w r x)
   unfolding fetch left_of
   fetch_some w r a l over e hw hp = tt
   fetch_some w r a l (found x a' l') e hw hp = give_some w r (entered x a' l') hw hp (omega (arith, good.sized a l x a' l' e))
   fetch_some w r a l (faulty k v) e hw hp = tt
 
-  turn_some : (w : ℕ) (r : Reader) → Some (turn L w r)
+  turn_some : (w : ℕ) (r : Reader) → Moving (turn L w r)
   turn_some w r =
-      turn_all L Some w r (λ _. tt) (λ hw hp hl. give_some w r r.stand hw hp hl)
+      turn_all L Moving w r (λ _. tt) (λ hw hp hl. give_some w r r.stand hw hp hl)
       (λ hw hp _. fetch_some w r r.stand.cursor r.stand.lcn (L.step r.stand.cursor r.stand.lcn) refl hw hp)
 
   none_summed : (r : Reader) → Summed (nothing r)
@@ -57,7 +57,7 @@ module _ (L : RunList) (good : Lawful L) where
       with : (x : Span) (g : Reading) → 0 < x.length → Summed g → Summed (before x g)
       with x g h s = record { sum = ap (λ n. x.length + n) s.sum; full = (h, s.full) }
 
-      go : (t : Turn) → Some t → ((w : ℕ) (r : Reader) → IfGiven Summed (read L room w r)) → IfGiven Summed (follow (read L room) w t)
+      go : (t : Turn) → Moving t → ((w : ℕ) (r : Reader) → IfGiven Summed (read L room w r)) → IfGiven Summed (follow (read L room) w t)
       go (stops r') h more = none_summed r'
       go (gives x r') h more = with x _ h (or_none r' (read L room (w - x.length) r') (more (w - x.length) r'))
       go (refuses k v) h more = tt
@@ -74,8 +74,8 @@ module _ (L : RunList) (good : Lawful L) where
   -- DATA POSITION FOLLOWS: a span's place with its length behind it is where the reader then stands.
   go_on : (c : Current) (d n : ℕ) → position_of (here c (d + n)) ≡ position_of (further (here c d) n)
   unfolding here further
-  go_on none d n = refl
-  go_on (some r) d n = on r.place
+  go_on None d n = refl
+  go_on (Some r) d n = on r.place
     where
       on : (p : Place) → position_of (further p (d + n)) ≡ position_of (further (further p d) n)
       on (disk p) = ap at_byte (sym (add_assoc p d n))
@@ -117,7 +117,7 @@ module _ (L : RunList) (good : Lawful L) where
           or_none r' y (more (w - x.length) r') ∙ ap (λ p. behind p (either y (λ g. g) (nothing r')).spans) h
       go (refuses k v) h more = tt
 
-  start_of : (y : Run) (e : ℕ) → y.place ≡ disk e → position_of (here (some y) 0) ≡ at_byte e
+  start_of : (y : Run) (e : ℕ) → y.place ≡ disk e → position_of (here (Some y) 0) ≡ at_byte e
   unfolding here further
   start_of y e p = rw (p, add-zero)
 
@@ -129,8 +129,8 @@ module _ (L : RunList) (good : Lawful L) where
       let t = r.place + w in
       let q : t - r.place ≡ w = omega arith in
       let z : w - w ≡ 0 = omega arith in
-      let f : forward L s (t - r.place) ≡ given (record { cursor = a; lcn = l; current = some y; displacement = 0 }) =
-      rw q (pick_no _ _ (le-ltb w w (omega arith)) ∙ rw z (settle_in L good s.cursor s.lcn 0 y a l st (good.sized s.cursor s.lcn y a l st))) in
-      let k : seek_to L r t ≡ given (record { stand = record { cursor = a; lcn = l; current = some y; displacement = 0 }; place = t; size = r.size }) =
+      let f : forward L s (t - r.place) ≡ given (record { cursor = a; lcn = l; current = Some y; displacement = 0 }) =
+      rw q (pick_no _ _ (le-ltb w w (omega arith)) ∙ rw z (settle_in L good.moves s.cursor s.lcn 0 y a l st (good.sized s.cursor s.lcn y a l st))) in
+      let k : seek_to L r t ≡ given (record { stand = record { cursor = a; lcn = l; current = Some y; displacement = 0 }; place = t; size = r.size }) =
       pick_no _ _ (ne_eqb t r.place (λ h. omega arith)) ∙ ap (at t r.size) (pick_no _ _ (le-ltb t r.place (omega arith)) ∙ f) in
       subst (Gives (λ r'. data_position r' ≡ at_byte e)) (sym k) (start_of y e p)

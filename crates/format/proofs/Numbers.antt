@@ -1,5 +1,6 @@
 -- Laws of numbers: differences of naturals as integers, the two's complement from the largest number of n bytes (once, over
 -- the byte length), a number within a word, and little-endian numbers byte by byte.
+use Rattle.std.specs.Prelude.{Some}
 use Prim.Native.Nat.{ℕ, zero, suc, ◌+◌, ◌-◌, ◌*◌, ◌/◌, ◌^◌, ◌<◌, ◌≤◌}
 use mathlib.Core.Path.{◌≡◌, sym, ap, ◌∙◌}
 use mathlib.Core.List.{List}
@@ -11,7 +12,6 @@ use lib.Seq.{drop-cons}
 use lib.IntN.{pos, negsuc, ◌-ℤ◌}
 use Rattle.format.specs.Pick.{pick_yes, pick_no}
 use Rattle.format.specs.Number.{little, twos, unsigned, within}
-use Rattle.format.specs.Number.Word.{word, outside}
 
 pub sub_lt : (a b : ℕ) → a < b → pos a -ℤ pos b ≡ negsuc (b - suc a)
 sub_lt a zero h = absurd (omega arith)
@@ -35,13 +35,9 @@ module _ (n x most : ℕ) (e : most + 1 ≡ 256 ^ n) where
   unfolding twos
   twos_past h k = sym (pick_no _ _ (le-ltb (x * 2) (256 ^ n) (omega arith)) ∙ sub_le x (256 ^ n) (omega arith) ∙ ap pos (omega arith))
 
-pub within_is : (n : ℕ) → n < 2 ^ 64 → word n ≡ within n
+pub within_is : (n : ℕ) → n < 2 ^ 64 → Some n ≡ within n
 unfolding within
 within_is n h = sym (pick_yes _ _ (lt-ltb n (2 ^ 64) h))
-
-pub within_out : (n : ℕ) → 2 ^ 64 ≤ n → outside ≡ within n
-unfolding within
-within_out n h = sym (pick_no _ _ (le-ltb n (2 ^ 64) h))
 
 -- one more byte in front
 pub little_step : (s : List ℕ) (j m : ℕ) → j < length s → little (take (suc m) (drop j s)) ≡ get_or s j 0 + 256 * little (take m (drop (suc j) s))

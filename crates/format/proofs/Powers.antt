@@ -7,11 +7,11 @@ use mathlib.Core.Logic.{◌⊎◌, inl, inr, ⊎_elim}
 use mathlib.Core.List.{List, [], ◌∷◌}
 use native.Mathlib.Omega.{arith}
 use native.Mathlib.Nat.{zero-add, add-zero, suc-add}
-use borrow.Author.Tests.{eq-eqb, ne_eqb, eqb-true, lt-ltb, le-ltb, ltb-false}
+use borrow.Author.Tests.{eq-eqb, ne_eqb, eqb-true, le-ltb, ltb-false}
 use types.Run.{OneOf}
 use lib.Pow.{pow_mono, pow-lt}
 use lib.Dec.{eqb, ltb}
-use Rattle.format.specs.Pick.{pick_true, pick_or, pick_all, yes_is, no_is}
+use Rattle.format.specs.Pick.{pick_true, pick_or, pick_all, no_is}
 use Rattle.format.specs.Number.{is_power, power_of_two, between, power_between, cluster_sound, min_cluster, max_cluster}
 
 -- the powers as the keys of a choice
@@ -48,10 +48,6 @@ power_between_bounds lo hi n e =
 between_is : (lo hi n : ℕ) → lo ≤ n → n ≤ hi → between lo hi n ≡ true
 unfolding between
 between_is lo hi n h k = sym (no_is _ (le-ltb n lo h) (no_is _ (le-ltb hi n k) refl))
-
-pub between_above : (lo hi n : ℕ) → hi < n → false ≡ between lo hi n
-unfolding between
-between_above lo hi n h = pick_all (λ (t : Bool). false ≡ t) (ltb n lo) _ _ (λ e. refl) (λ e. yes_is _ (lt-ltb hi n h))
 
 or_assoc : (a b d : Bool) → ((a || b) || d) ≡ (a || (b || d))
 or_assoc true b d = refl

@@ -1,16 +1,16 @@
 -- The laws of lists and of readers over them, up to: every read of a reader that tracks the list names what the lookup rule names.
+use Rattle.std.specs.Prelude.{Some, None}
 use Prim.Native.Nat.{ℕ, zero, suc, ◌+◌, ◌-◌, ◌≤◌, ◌<◌, min}
 use mathlib.Core.Path.{◌≡◌, refl, ap, sym, subst, ◌∙◌}
-use mathlib.Core.List.{List, ◌∷◌, ◌++◌}
+use mathlib.Core.List.{◌∷◌, ◌++◌}
 use native.Mathlib.Omega.{arith}
 use native.Mathlib.Nat.{sub-zero, zero-add, suc-add, add-zero, add_assoc}
 use lib.Dec.{ltb, leb, eqb}
 use lib.ListN.{length}
-use lib.IntN.{ℤ}
 use borrow.Author.Tests.{leb-true, leb-false, eqb-true, eqb-false, lt-ltb, le-ltb}
-use Rattle.format.specs.Pick.{pick, pick_yes, pick_no, pick_all, pick_lt, same_test}
+use Rattle.format.specs.Pick.{pick, pick_yes, pick_all, pick_lt, same_test}
 use Rattle.format.specs.Listed.{Lawful}
-use Rattle.format.proofs.Listed.{listed_rule, listed_at}
+use Rattle.format.proofs.Listed.{Moves, listed_again, listed_rule}
 use Rattle.format.specs.Listed.{Answer, IfGiven, then, either, RunList, Listed, unroll, listed, list, runs, covered, Where, byte, lookup}
 use Rattle.format.specs.Listed.Answer.{given, refused}
 use Rattle.format.specs.Runs.{Place, Run, Step}
@@ -20,7 +20,6 @@ use Rattle.format.specs.Listed.Listed.{ends, run, breaks}
 use Rattle.format.specs.Listed.Where.{position, not_covered, unknown}
 use Rattle.format.specs.Reader.{Current, Stand, Reader, start, entered, at_end, left_of, left, moved, settle, forward, at, opened, seek_to, Reading, further, here, nothing, before, Turn, give, fetch, turn, follow, read}
 use Rattle.format.specs.History.{upto, expand, bytes_at, amount, total, NoneEmpty}
-use Rattle.format.specs.Reader.Current.{none, some}
 use Rattle.format.specs.Reader.Turn.{stops}
 
 -- How many runs lie from offset p on.
@@ -47,12 +46,12 @@ runs_at_none (breaks k v) p e = omega arith
 -- THE CURRENT RUN. What is left of it after a move; what it says of the byte at the displacement.
 left_moved : (c : Current) (d m : ℕ) → left_of c (d + m) ≡ left_of c d - m
 unfolding left_of
-left_moved none d m = omega arith
-left_moved (some r) d m = omega arith
+left_moved None d m = omega arith
+left_moved (Some r) d m = omega arith
 
 spot_at : Current → ℕ → Where
-spot_at none d = not_covered
-spot_at (some r) d = byte r.place d
+spot_at None d = not_covered
+spot_at (Some r) d = byte r.place d
 
 abbrev spot : Answer Stand → Where
 spot (given s) = spot_at s.current s.displacement
@@ -60,8 +59,8 @@ spot (refused k v) = unknown k v
 
 here_spot : (c : Current) (d i : ℕ) → 0 < left_of c d → byte (here c d) i ≡ spot_at c (d + i)
 unfolding spot_at here left_of byte further
-here_spot none d i h = absurd (omega arith)
-here_spot (some r) d i h = go r.place
+here_spot None d i h = absurd (omega arith)
+here_spot (Some r) d i h = go r.place
   where
     go : (q : Place) → byte (further q d) i ≡ byte q (d + i)
     go (disk k) = ap position (add_assoc k d i)
@@ -262,7 +261,7 @@ module _ (L : RunList) where
     -- To settle at m and go forward by n is to settle at m + n.
     settle_add : (d : Listed) (a l : ℕ) → listed L a l ≡ d → (m n : ℕ) → then (settle L d m) (λ s. forward L s n) ≡ settle L d (m + n)
     unfolding settle pick left_of
-    settle_add (ends l') a l e m n = rw (forward_used (at_end L l' none 0) n refl, listed_end l')
+    settle_add (ends l') a l e m n = rw (forward_used (at_end L l' None 0) n refl, listed_end l')
     settle_add (run r a' l' rest) a l e m n =
         let k = listed_next a l a' l' r rest e in
         pick_lt (λ x. then x (λ s. forward L s n) ≡ settle L (run r a' l' rest) (m + n)) m r.size _ _
@@ -319,22 +318,21 @@ module _ (L : RunList) where
     pub read_at : (p z w room : ℕ) (r : Reader) → At p z r → Outcome p z w room (read L room w r)
     read_at p z w room r t = subst (λ x. Outcome p x w room (read L room w r)) t.size (subst (λ x. Outcome x r.size w room (read L room w r)) t.place (every_read room w r (rw t.place t.tracks)))
 
-    -- SETTLING at n from a cursor on, one rule for each thing that a step can say.
-    module _ (a l n : ℕ) where
-      pub settle_over : L.step a l ≡ over → settle L (listed L a l) n ≡ given (at_end L l none 0)
-      unfolding unroll settle
-      settle_over e = rw (listed_at L good a l over e)
+-- SETTLING n on from a cursor, by what stands there.
+abbrev pub settles : RunList → ℕ → ℕ → Step → Answer Stand
+settles L l n over = given (at_end L l None 0)
+settles L l n (found r a l') = pick (ltb n r.size) (given (moved (entered r a l') n)) (settle L (listed L a l') (n - r.size))
+settles L l n (faulty k v) = refused k v
 
-      settle_found : (r : Run) (a' l' : ℕ) → L.step a l ≡ found r a' l' → settle L (listed L a l) n ≡ pick (ltb n r.size) (given (moved (entered r a' l') n)) (settle L (listed L a' l') (n - r.size))
-      unfolding unroll settle
-      settle_found r a' l' e = rw (listed_at L good a l (found r a' l') e)
+module _ (L : RunList) (moves : Moves L) where
+  settles_unrolled : (x : Step) (l n : ℕ) → settle L (unroll x l (listed L)) n ≡ settles L l n x
+  unfolding unroll settle
+  settles_unrolled over l n = refl
+  settles_unrolled (found r a l') l n = refl
+  settles_unrolled (faulty k v) l n = refl
 
-      pub settle_in : (r : Run) (a' l' : ℕ) → L.step a l ≡ found r a' l' → n < r.size → settle L (listed L a l) n ≡ given (record { cursor = a'; lcn = l'; current = some r; displacement = n })
-      settle_in r a' l' e h = settle_found r a' l' e ∙ pick_yes _ _ (lt-ltb n r.size h) ∙ rw zero-add
+  pub settle_rule : (a l n : ℕ) → settle L (listed L a l) n ≡ settles L l n (L.step a l)
+  settle_rule a l n = ap (λ d. settle L d n) (listed_again L moves a l) ∙ settles_unrolled (L.step a l) l n
 
-      pub settle_on : (r : Run) (a' l' : ℕ) → L.step a l ≡ found r a' l' → r.size ≤ n → settle L (listed L a l) n ≡ settle L (listed L a' l') (n - r.size)
-      settle_on r a' l' e h = settle_found r a' l' e ∙ pick_no _ _ (le-ltb n r.size h)
-
-      pub settle_faulty : (k : ℕ) (v : List ℤ) → L.step a l ≡ faulty k v → settle L (listed L a l) n ≡ refused k v
-      unfolding unroll settle
-      settle_faulty k v e = rw (listed_at L good a l (faulty k v) e)
+  pub settle_in : (a l n : ℕ) (r : Run) (a' l' : ℕ) → L.step a l ≡ found r a' l' → n < r.size → settle L (listed L a l) n ≡ given (record { cursor = a'; lcn = l'; current = Some r; displacement = n })
+  settle_in a l n r a' l' e h = settle_rule a l n ∙ ap (settles L l n) e ∙ pick_yes _ _ (lt-ltb n r.size h) ∙ rw zero-add

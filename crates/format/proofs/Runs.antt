@@ -1,7 +1,8 @@
 -- The real decoder is lawful: each run it finds isn't empty, takes two bytes of the list or more, and ends inside; at the list's length
 -- the list is over. By going down the choices of a step with what must hold of the answer.
+use Rattle.std.specs.Prelude.{Option, Some, None}
 use Prim.Native.Nat.{ℕ, ◌+◌, ◌-◌, ◌*◌, ◌/◌, ◌%◌, ◌^◌, ◌<◌, ◌≤◌}
-use mathlib.Core.Path.{◌≡◌, sym, subst, ◌∙◌}
+use mathlib.Core.Path.{◌≡◌, subst}
 use mathlib.Core.Bool.{true}
 use mathlib.Core.List.{List}
 use native.Mathlib.Omega.{arith}
@@ -10,14 +11,15 @@ use native.Mathlib.Decide.{dec_lt}
 use lib.ListN.{length, get_or}
 use lib.Dec.{ltb, leb, eqb}
 use lib.IntN.{ℤ, pos, ◌+ℤ◌}
-use borrow.Author.Tests.{ltb-true, ltb-false, leb-false, le-leb, lt-leb, lt-ltb, le-ltb, eqb-false}
-use Rattle.format.specs.Pick.{pick_all, pick_yes}
-use Rattle.format.specs.Number.{little, unsigned, signed, within, within_ℤ, Word}
-use Rattle.format.specs.Number.Word.{word, outside}
+use borrow.Author.Tests.{ltb-true, ltb-false, leb-false, le-leb, eqb-false}
+use Rattle.format.specs.Pick.{pick, pick_all, pick_yes}
+use Rattle.format.specs.Number.{little, unsigned, signed, within, within_ℤ}
 use Rattle.format.specs.Runs.{Place, Run, Step, is_hole, ends, Inside, on_disk, moved, delta_part, sized, count_part, step}
 use Rattle.format.specs.Runs.Place.{disk, hole}
 use Rattle.format.specs.Runs.Step.{over, found, faulty}
+use Rattle.std.proofs.lemmas.Bool.Decides.{nat_tests}
 use Rattle.format.specs.Listed.{run_list, Lawful}
+use Rattle.format.proofs.Listed.{Moves}
 
 -- what holds of a run that a step at a cursor of a list of n bytes finds
 abbrev pub Ahead : ℕ → ℕ → Step → Type 0
@@ -25,9 +27,9 @@ Ahead at n over = Unit {0}
 Ahead at n (found r to lcn) = (at + 1 < to) × (to ≤ n) × (0 < r.size) × Inside r.place r.size
 Ahead at n (faulty k vs) = Unit {0}
 
-abbrev Positive : Word → Type 0
-Positive (word n) = 0 < n
-Positive outside = Unit {0}
+abbrev Positive : Option ℕ → Type 0
+Positive (Some n) = 0 < n
+Positive None = Unit {0}
 
 within_positive : (n : ℕ) → 0 < n → Positive (within n)
 unfolding within
@@ -42,13 +44,13 @@ unfolding ends
 ends_inside p size e = ltb-true (p + size) (2 ^ 64) e
 
 module _ (cluster at n : ℕ) where
-  on_disk_ahead : (to lcn size : ℕ) (w : Word) → at + 1 < to → to ≤ n → 0 < size → Ahead at n (on_disk cluster at to lcn size w)
-  on_disk_ahead to lcn size outside h k z = tt
-  on_disk_ahead to lcn size (word p) h k z = pick_all (Ahead at n) (ends p size) _ _ (λ e. (h, k, z, ends_inside p size e)) (λ _. tt)
+  on_disk_ahead : (to lcn size : ℕ) (w : Option ℕ) → at + 1 < to → to ≤ n → 0 < size → Ahead at n (on_disk cluster at to lcn size w)
+  on_disk_ahead to lcn size None h k z = tt
+  on_disk_ahead to lcn size (Some p) h k z = pick_all (Ahead at n) (ends p size) _ _ (λ e. (h, k, z, ends_inside p size e)) (λ _. tt)
 
-  moved_ahead : (to lcn size m : ℕ) (d : ℤ) (w : Word) → at + 1 < to → to ≤ n → 0 < size → Ahead at n (moved cluster at to lcn size m d w)
-  moved_ahead to lcn size m d outside h k z = tt
-  moved_ahead to lcn size m d (word x) h k z = pick_all (Ahead at n) (is_hole m d x) _ _ (λ _. (h, k, z, tt)) (λ _. on_disk_ahead to x size (within (x * cluster)) h k z)
+  moved_ahead : (to lcn size m : ℕ) (d : ℤ) (w : Option ℕ) → at + 1 < to → to ≤ n → 0 < size → Ahead at n (moved cluster at to lcn size m d w)
+  moved_ahead to lcn size m d None h k z = tt
+  moved_ahead to lcn size m d (Some x) h k z = pick_all (Ahead at n) (is_hole m d x) _ _ (λ _. (h, k, z, tt)) (λ _. on_disk_ahead to x size (within (x * cluster)) h k z)
 
 module _ (cluster at : ℕ) (s : List ℕ) (lcn : ℕ) where
   delta_ahead : (from m size : ℕ) → at + 1 < from → from ≤ length s → 0 < size → Ahead at (length s) (delta_part cluster at s lcn from m size)
@@ -59,9 +61,9 @@ module _ (cluster at : ℕ) (s : List ℕ) (lcn : ℕ) where
       let q : m ≤ length s - from = ltb-false (length s - from) m e in
       moved_ahead cluster at (length s) (from + m) lcn size m (signed s from m) (within_ℤ (pos lcn +ℤ signed s from m)) (omega arith) (omega arith) z))
 
-  sized_ahead : (head : ℕ) (w : Word) → 0 < head % 16 → at + 1 + head % 16 ≤ length s → Positive w → Ahead at (length s) (sized cluster at s lcn head w)
-  sized_ahead head outside h k z = tt
-  sized_ahead head (word size) h k z = delta_ahead (at + 1 + head % 16) (head / 16) size (omega arith) k z
+  sized_ahead : (head : ℕ) (w : Option ℕ) → 0 < head % 16 → at + 1 + head % 16 ≤ length s → Positive w → Ahead at (length s) (sized cluster at s lcn head w)
+  sized_ahead head None h k z = tt
+  sized_ahead head (Some size) h k z = delta_ahead (at + 1 + head % 16) (head / 16) size (omega arith) k z
 
   count_ahead : (head : ℕ) → 0 < cluster → at < length s → Ahead at (length s) (count_part cluster at s lcn head)
   unfolding count_part
@@ -98,10 +100,8 @@ lawful cluster s c =
     }
 
 -- rule 19 by a difference
-pub ends_same : (p n : ℕ) → n < 2 ^ 64 → leb p (18446744073709551615 - n) ≡ ends p n
-unfolding ends
-ends_same p n h =
-    elim (dec_lt (p + n) (2 ^ 64)) [
-      | yes q ↦ le-leb p (18446744073709551615 - n) (omega arith) ∙ sym (lt-ltb (p + n) (2 ^ 64) q)
-      | no q ↦ lt-leb p (18446744073709551615 - n) (omega arith) ∙ sym (le-ltb (p + n) (2 ^ 64) (omega arith))
-    ]
+
+-- a run takes two bytes of the list or more, whatever the cluster size
+pub step_moves : (cluster : ℕ) (s : List ℕ) → Moves (run_list cluster s)
+unfolding step count_part delta_part within pick
+step_moves cluster s a l r a' l' e = grind (arith, nat_tests)

@@ -1,5 +1,6 @@
 -- A reader that a call gives is sound, and stays so: whatever is fetched keeps rule 19 and leaves the cursor inside the list, and a move
 -- inside a run never passes its size. So 21 never meets a reader that was opened over the same list.
+use Rattle.std.specs.Prelude.{Some, None}
 use Prim.Native.Nat.{ℕ, zero, suc, ◌+◌, ◌-◌, ◌^◌, ◌<◌, ◌≤◌, min}
 use mathlib.Core.Path.{◌≡◌, refl, ap, ◌∙◌}
 use mathlib.Core.Bool.{Bool, true, false, not}
@@ -15,7 +16,6 @@ use Rattle.format.specs.Listed.{Answer, IfGiven, then, either, RunList, Lawful, 
 use Rattle.format.specs.Listed.Answer.{given, refused}
 use Rattle.format.specs.Listed.Listed.{ends as ended, run, breaks}
 use Rattle.format.specs.Reader.{Current, Stand, Reader, start, entered, left_of, left, settle, forward, at, opened, seek_to, Reading, Turn, nothing, give, fetch, turn, follow, read}
-use Rattle.format.specs.Reader.Current.{none, some}
 use Rattle.format.specs.Reader.Turn.{stops, gives, refuses}
 use Rattle.format.specs.Calls.{Held, place_sound, current_sound, sound, sound_in}
 use Rattle.format.proofs.Powers.{sound_bounds}
@@ -23,8 +23,8 @@ use Rattle.format.proofs.Reader.{turn_all}
 
 -- SOUND in words that proofs use: a stand in a list of so many bytes.
 abbrev pub FitsIn : Current → ℕ → Type 0
-FitsIn none d = d ≡ 0
-FitsIn (some r) d = (d ≤ r.size) × Inside r.place r.size
+FitsIn None d = d ≡ 0
+FitsIn (Some r) d = (d ≤ r.size) × Inside r.place r.size
 
 pub record Good (end : ℕ) (s : Stand) : Type 0 where
   pub inside : s.cursor ≤ end
@@ -42,13 +42,13 @@ place_inside hole n e = tt
 
 pub fits_sound : (c : Current) (d : ℕ) → FitsIn c d → current_sound c d ≡ true
 unfolding current_sound
-fits_sound none d h = eq-eqb d 0 h
-fits_sound (some r) d h = pick_no _ _ (le-ltb r.size d h.0) ∙ inside_sound r.place r.size h.1
+fits_sound None d h = eq-eqb d 0 h
+fits_sound (Some r) d h = pick_no _ _ (le-ltb r.size d h.0) ∙ inside_sound r.place r.size h.1
 
 pub current_fits : (c : Current) (d : ℕ) → current_sound c d ≡ true → FitsIn c d
 unfolding current_sound
-current_fits none d e = eqb-true d 0 e
-current_fits (some r) d e = let h = pick_true (ltb r.size d) (place_sound r.place r.size) e in (ltb-false r.size d h.0, place_inside r.place r.size h.1)
+current_fits None d e = eqb-true d 0 e
+current_fits (Some r) d e = let h = pick_true (ltb r.size d) (place_sound r.place r.size) e in (ltb-false r.size d h.0, place_inside r.place r.size h.1)
 
 pub not-true : (b : Bool) → not b ≡ false → b ≡ true
 not-true true e = refl
@@ -74,8 +74,8 @@ sound_full end h e = omega (arith, (sound_bounds h.cluster (sound_good end h e).
 -- inside what is left the displacement moves on
 pub moved_fits : (c : Current) (d n : ℕ) → FitsIn c d → n ≤ left_of c d → FitsIn c (d + n)
 unfolding left_of
-moved_fits none d n h k = omega arith
-moved_fits (some r) d n h k = (omega (arith, h.0), h.1)
+moved_fits None d n h k = omega arith
+moved_fits (Some r) d n h k = (omega (arith, h.0), h.1)
 
 module _ (L : RunList) (good : Lawful L) (within : (a l : ℕ) (r : Run) (a' l' : ℕ) → L.step a l ≡ found r a' l' → Inside r.place r.size) where
   abbrev pub GoodTurn : Turn → Type 0

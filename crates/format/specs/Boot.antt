@@ -1,9 +1,8 @@
 -- The boot sector: what its first 512 bytes say of the disk's geometry, or a refusal (1 to 7, tried in that order) as its
 -- number with its values.
-use Rattle.std.specs.Prelude.{ℕ, suc, ◌-◌, ◌*◌, ◌^◌, Bool, not, ◌&&◌, List, [], ◌∷◌, length, get_or, ltb, eqb, ℤ, pos, negsuc}
+use Rattle.std.specs.Prelude.{ℕ, suc, ◌-◌, ◌*◌, ◌^◌, Bool, not, ◌&&◌, List, [], ◌∷◌, length, get_or, ltb, eqb, ℤ, pos, negsuc, None, Option, Some}
 use Rattle.format.specs.Pick.{pick}
-use Rattle.format.specs.Number.{unsigned, twos, within, Word, power_of_two, power_between, between, min_cluster, max_cluster}
-use Rattle.format.specs.Number.Word.{word, outside}
+use Rattle.format.specs.Number.{unsigned, twos, within, power_of_two, power_between, between, min_cluster, max_cluster}
 
 pub record Geometry : Type 0 where
   pub sector : ℕ
@@ -59,20 +58,20 @@ unfoldable pub marked : ℕ → ℕ → Bool
 marked a b = eqb a 0x55 && eqb b 0xaa
 
 -- Sectors per cluster: 1 to 128 must be a power of two; 244 to 255 mean 2 to the power 256 - byte; all else is refused.
-unfoldable pub sectors_of : ℕ → Word
+unfoldable pub sectors_of : ℕ → Option ℕ
 sectors_of b =
-    pick (between 1 128 b) (pick (power_of_two b) (word b) outside)
-    (pick (between 244 255 b) (word (2 ^ (256 - b))) outside)
+    pick (between 1 128 b) (pick (power_of_two b) (Some b) None)
+    (pick (between 244 255 b) (Some (2 ^ (256 - b))) None)
 
 -- The rule for the file record size. Above 0: that many clusters. Otherwise -10, -11, -12 mean 1,024, 2,048, 4,096.
-unfoldable pub record_size_of : ℤ → ℕ → Word
-record_size_of (pos n) cluster = pick (eqb n 0) outside (within (n * cluster))
-record_size_of (negsuc k) cluster = pick (between 10 12 (suc k)) (word (2 ^ suc k)) outside
+unfoldable pub record_size_of : ℤ → ℕ → Option ℕ
+record_size_of (pos n) cluster = pick (eqb n 0) None (within (n * cluster))
+record_size_of (negsuc k) cluster = pick (between 10 12 (suc k)) (Some (2 ^ suc k)) None
 
 -- with the size of a record, where there is one: 7, or all that the sector says
-abbrev pub recorded : List ℕ → ℕ → Word → Boot
-recorded s cluster outside = refused 7 (record_info s ∷ pos cluster ∷ [])
-recorded s cluster (word size) =
+abbrev pub recorded : List ℕ → ℕ → Option ℕ → Boot
+recorded s cluster None = refused 7 (record_info s ∷ pos cluster ∷ [])
+recorded s cluster (Some size) =
     geometry (record {
       sector = sector_size s;
       cluster = cluster;
@@ -91,9 +90,9 @@ clustered s cluster =
     (recorded s cluster (record_size_of (record_info s) cluster))
 
 -- with the sectors per cluster, where there are some: 3, 4, 5, then the rest
-abbrev pub sectored : List ℕ → Word → Boot
-sectored s outside = refused 3 (pos (per_cluster s) ∷ [])
-sectored s (word n) =
+abbrev pub sectored : List ℕ → Option ℕ → Boot
+sectored s None = refused 3 (pos (per_cluster s) ∷ [])
+sectored s (Some n) =
     pick (not (power_between min_sector max_sector (sector_size s))) (refused 4 (pos (sector_size s) ∷ []))
     (pick (not (between min_cluster max_cluster (n * sector_size s))) (refused 5 (pos (n * sector_size s) ∷ []))
     (clustered s (n * sector_size s)))

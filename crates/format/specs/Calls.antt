@@ -1,6 +1,6 @@
 -- The reader's calls as the scope has them: what is unsound (21), opening, seeking, reading into a store, data position. The list comes
 -- with each call as its bytes.
-use Rattle.std.specs.Prelude.{ℕ, ◌/◌, Bool, true, false, not, List, [], ◌∷◌, ◌++◌, length, drop, ltb, eqb, ℤ}
+use Rattle.std.specs.Prelude.{ℕ, ◌/◌, Bool, true, false, not, List, [], ◌∷◌, ◌++◌, length, drop, ltb, eqb, ℤ, None, Some}
 use Rattle.format.specs.Pick.{pick}
 use Rattle.format.specs.Number.{cluster_sound}
 use Rattle.format.specs.Runs.{Place, ends}
@@ -8,7 +8,6 @@ use Rattle.format.specs.Runs.Place.{disk, hole}
 use Rattle.format.specs.Listed.{Answer, then, run_list}
 use Rattle.format.specs.Listed.Answer.{given, refused}
 use Rattle.format.specs.Reader.{Current, Reader, opened, From, seek, Span, Reading, read, Position, data_position}
-use Rattle.format.specs.Reader.Current.{none, some}
 
 -- THE READER between calls, in seven parts: its cluster size; and the reader of a list, which is cursor, previous LCN, current run and
 -- displacement (its stand), place and data size.
@@ -26,8 +25,8 @@ place_sound (disk p) size = ends p size
 place_sound hole size = true
 
 unfoldable pub current_sound : Current → ℕ → Bool
-current_sound none d = eqb d 0
-current_sound (some r) d = pick (ltb r.size d) false (place_sound r.place r.size)
+current_sound None d = eqb d 0
+current_sound (Some r) d = pick (ltb r.size d) false (place_sound r.place r.size)
 
 unfoldable pub sound : Held → Bool
 sound h = pick (not (cluster_sound h.cluster)) false (current_sound h.reader.stand.current h.reader.stand.displacement)

@@ -1,6 +1,6 @@
 -- The scope's cases C1 to C13 in one table under one proved statement. A case is a single step of the decoder, a whole list, an
 -- offset looked up, or what a new reader does.
-use Rattle.std.specs.Prelude.{ℕ, ◌≡◌, refl, List, [], ◌∷◌, replicate, ℤ, pos, negsuc}
+use Rattle.std.specs.Prelude.{ℕ, ◌≡◌, refl, List, [], ◌∷◌, replicate, ℤ, pos, negsuc, None, Some}
 use Rattle.format.specs.Pick.{pick}
 use Rattle.format.specs.Number.{little, twos, unsigned, signed, within, is_power, power_of_two, between, power_between, cluster_sound}
 use Rattle.format.specs.Runs.{Run, Step, is_hole, ends, delta_part, count_part, step, next}
@@ -8,7 +8,6 @@ use Rattle.format.specs.Runs.Place.{disk, hole}
 use Rattle.format.specs.Runs.Step.{over, found, faulty}
 use Rattle.format.specs.Listed.{Listed, list, run_list, unroll, listed_by, listed, Where, byte, lookup, list_fits, looked_up, Listed as L, Where as W, Answer, then, either, Answer as A}
 use Rattle.format.specs.Reader.{Current, From, left_of, settle, forward, opened, seek_to, base, target, seek, further, here, give, fetch, turn, follow, read, Position}
-use Rattle.format.specs.Reader.Current.{none, some}
 use Rattle.format.specs.Reader.From.{from_start, from_place, from_end}
 use Rattle.format.specs.Reader.Position.{at_byte, nowhere}
 use Rattle.format.specs.Calls.{Held, place_sound, current_sound, sound, sound_in, opening, seeking, reading, Count, counted, words, stored, standing}
@@ -91,8 +90,8 @@ table =
     ∷ steps 512 (0x11 ∷ 0x01 ∷ 0x00 ∷ []) 0 7 (found (empty 512) 3 7)
     ∷ lists 512 B (L.run (at 1024 5120) 3 10 (L.run (at 512 4096) 6 8 (L.run (empty 1536) 8 8 (L.run (at 1024 6656) 11 13 (L.ends 13)))))
     -- C4, C5, C6
-    ∷ reads_after 512 B (to 900 ∷ []) 1000 (replicate 9 7) (count 3 1000 (held 8 8 (some (empty 1536)) 364 1900)) (6020 ∷ 124 ∷ 1 ∷ 4096 ∷ 512 ∷ 1 ∷ 0 ∷ 364 ∷ 0 ∷ [])
-    ∷ reads_after 512 B (to 3900 ∷ []) 500 (replicate 9 7) (count 1 100 (held 11 13 (some (at 1024 6656)) 928 4000)) (7484 ∷ 100 ∷ 1 ∷ replicate 6 7)
+    ∷ reads_after 512 B (to 900 ∷ []) 1000 (replicate 9 7) (count 3 1000 (held 8 8 (Some (empty 1536)) 364 1900)) (6020 ∷ 124 ∷ 1 ∷ 4096 ∷ 512 ∷ 1 ∷ 0 ∷ 364 ∷ 0 ∷ [])
+    ∷ reads_after 512 B (to 3900 ∷ []) 500 (replicate 9 7) (count 1 100 (held 11 13 (Some (at 1024 6656)) 928 4000)) (7484 ∷ 100 ∷ 1 ∷ replicate 6 7)
     ∷ stands_after 512 B (three 1024 ∷ []) (A.given (at_byte 6144))
     ∷ stands_after 512 B (to 1024 ∷ []) (A.given (at_byte 4096))
     -- C7 to C13
@@ -111,49 +110,49 @@ table =
     ∷ steps 512 B 12 13 over
     ∷ lists 512 broken (L.run (at 512 5120) 3 10 (L.breaks 13 (pos 3 ∷ [])))
     -- C15 and C16: a read that meets a refused run after bytes gives them, the next one and a seek there are refused
-    ∷ reads_after 512 broken [] 600 (replicate 9 7) (count 1 512 (held 3 10 (some (at 512 5120)) 512 512)) (5120 ∷ 512 ∷ 1 ∷ replicate 6 7)
+    ∷ reads_after 512 broken [] 600 (replicate 9 7) (count 1 512 (held 3 10 (Some (at 512 5120)) 512 512)) (5120 ∷ 512 ∷ 1 ∷ replicate 6 7)
     ∷ reads_after 512 broken (three 600 ∷ []) 600 (replicate 9 7) (A.refused 13 (pos 3 ∷ [])) (replicate 9 7)
     ∷ seeks_after 512 broken [] from_start (pos 512) (A.refused 13 (pos 3 ∷ []))
     ∷ seeks_after 512 B [] from_end (negsuc 9223372036854775807) (A.refused 20 [])
     -- room for two spans of a store of eight words; list over keeps the run; past it there is none; 2^64 is out of range, 2^64 - 1 is not
-    ∷ reads_after 512 B (to 900 ∷ []) 1000 (replicate 8 7) (count 2 636 (held 6 8 (some (at 512 4096)) 512 1536)) (6020 ∷ 124 ∷ 1 ∷ 4096 ∷ 512 ∷ 1 ∷ 7 ∷ 7 ∷ [])
-    ∷ reads_after 512 (0x11 ∷ 0x01 ∷ 0x0a ∷ 0x00 ∷ []) [] 600 (replicate 6 7) (count 1 512 (held 4 10 (some (at 512 5120)) 512 512)) (5120 ∷ 512 ∷ 1 ∷ 7 ∷ 7 ∷ 7 ∷ [])
-    ∷ seeks_after 512 (0x11 ∷ 0x01 ∷ 0x0a ∷ 0x00 ∷ []) [] from_start (pos 512) (A.given (held 4 10 none 0 512))
-    ∷ seeks_after 512 B (to 900 ∷ []) from_place (negsuc 99) (A.given (held 3 10 (some (at 1024 5120)) 800 800))
-    ∷ seeks_after 512 B [] from_end (pos 18446744073709547615) (A.given (held 12 13 none 0 18446744073709551615))
+    ∷ reads_after 512 B (to 900 ∷ []) 1000 (replicate 8 7) (count 2 636 (held 6 8 (Some (at 512 4096)) 512 1536)) (6020 ∷ 124 ∷ 1 ∷ 4096 ∷ 512 ∷ 1 ∷ 7 ∷ 7 ∷ [])
+    ∷ reads_after 512 (0x11 ∷ 0x01 ∷ 0x0a ∷ 0x00 ∷ []) [] 600 (replicate 6 7) (count 1 512 (held 4 10 (Some (at 512 5120)) 512 512)) (5120 ∷ 512 ∷ 1 ∷ 7 ∷ 7 ∷ 7 ∷ [])
+    ∷ seeks_after 512 (0x11 ∷ 0x01 ∷ 0x0a ∷ 0x00 ∷ []) [] from_start (pos 512) (A.given (held 4 10 None 0 512))
+    ∷ seeks_after 512 B (to 900 ∷ []) from_place (negsuc 99) (A.given (held 3 10 (Some (at 1024 5120)) 800 800))
+    ∷ seeks_after 512 B [] from_end (pos 18446744073709547615) (A.given (held 12 13 None 0 18446744073709551615))
     ∷ seeks_after 512 B [] from_end (pos 18446744073709547616) (A.refused 20 [])
     ∷ stands_after 512 B (to 1600 ∷ []) (A.given nowhere)
     ∷ stands_after 512 B (to 5000 ∷ []) (A.given nowhere)
     -- neighbouring holes aren't joined; the data's end stops a read before the next run is fetched; a seek to the place changes nothing;
     -- a place past the data
-    ∷ reads_after 512 (0x01 ∷ 0x01 ∷ 0x01 ∷ 0x01 ∷ []) [] 1024 (replicate 6 7) (count 2 1024 (held 4 0 (some (empty 512)) 512 1024)) (0 ∷ 512 ∷ 0 ∷ 0 ∷ 512 ∷ 0 ∷ [])
-    ∷ reads_by B (record { cluster = 512; reader = record { stand = record { cursor = 3; lcn = 10; current = some (at 1024 5120); displacement = 1024 }; place = 4000; size = 4000 } }) 512 (replicate 3 7)
-    (count 0 0 (held 3 10 (some (at 1024 5120)) 1024 4000)) (replicate 3 7)
-    ∷ seeks_after 512 B (three 1024 ∷ []) from_place (pos 0) (A.given (held 3 10 (some (at 1024 5120)) 1024 1024))
-    ∷ reads_after 512 B (to 4001 ∷ []) 1 (replicate 3 7) (count 0 0 (held 11 13 (some (at 1024 6656)) 929 4001)) (replicate 3 7)
+    ∷ reads_after 512 (0x01 ∷ 0x01 ∷ 0x01 ∷ 0x01 ∷ []) [] 1024 (replicate 6 7) (count 2 1024 (held 4 0 (Some (empty 512)) 512 1024)) (0 ∷ 512 ∷ 0 ∷ 0 ∷ 512 ∷ 0 ∷ [])
+    ∷ reads_by B (record { cluster = 512; reader = record { stand = record { cursor = 3; lcn = 10; current = Some (at 1024 5120); displacement = 1024 }; place = 4000; size = 4000 } }) 512 (replicate 3 7)
+    (count 0 0 (held 3 10 (Some (at 1024 5120)) 1024 4000)) (replicate 3 7)
+    ∷ seeks_after 512 B (three 1024 ∷ []) from_place (pos 0) (A.given (held 3 10 (Some (at 1024 5120)) 1024 1024))
+    ∷ reads_after 512 B (to 4001 ∷ []) 1 (replicate 3 7) (count 0 0 (held 11 13 (Some (at 1024 6656)) 929 4001)) (replicate 3 7)
     -- what is unsound, part by part, with its neighbour that is not; 21 before 20; the store is left
     ∷ opens_at 511 B unsound
     ∷ opens_at 4194304 B unsound
-    ∷ seeks_by B (made 511 0 none 0) from_start (negsuc 0) unsound
-    ∷ seeks_by B (made 512 0 none 0) from_start (negsuc 0) (A.refused 20 [])
-    ∷ reads_by B (made 511 0 none 0) 10 (replicate 3 7) unsound (replicate 3 7)
-    ∷ stands_by (made 511 0 none 0) unsound
-    ∷ seeks_by B (made 512 13 none 0) from_place (pos 0) unsound
-    ∷ seeks_by B (made 512 12 none 0) from_place (pos 0) (A.given (made 512 12 none 0))
-    ∷ reads_by B (made 512 13 none 0) 10 (replicate 3 7) unsound (replicate 3 7)
-    ∷ stands_by (made 512 13 none 0) (A.given nowhere)
-    ∷ seeks_by B (made 512 0 none 1) from_place (pos 0) unsound
-    ∷ reads_by B (made 512 0 none 1) 10 (replicate 3 7) unsound (replicate 3 7)
-    ∷ stands_by (made 512 0 none 1) unsound
-    ∷ seeks_by B (made 512 3 (some (at 10 0)) 11) from_place (pos 0) unsound
-    ∷ reads_by B (made 512 3 (some (at 10 0)) 11) 10 (replicate 3 7) unsound (replicate 3 7)
-    ∷ stands_by (made 512 3 (some (at 10 0)) 11) unsound
-    ∷ stands_by (made 512 3 (some (at 10 0)) 10) (A.given (at_byte 10))
-    ∷ seeks_by B (made 512 3 (some (at 10 18446744073709551606)) 4) from_place (pos 0) unsound
-    ∷ reads_by B (made 512 3 (some (at 10 18446744073709551606)) 4) 10 (replicate 3 7) unsound (replicate 3 7)
-    ∷ stands_by (made 512 3 (some (at 10 18446744073709551606)) 4) unsound
-    ∷ stands_by (made 512 3 (some (at 10 18446744073709551605)) 4) (A.given (at_byte 18446744073709551609))
-    ∷ stands_by (made 512 3 (some (empty 18446744073709551615)) 7) (A.given nowhere)
+    ∷ seeks_by B (made 511 0 None 0) from_start (negsuc 0) unsound
+    ∷ seeks_by B (made 512 0 None 0) from_start (negsuc 0) (A.refused 20 [])
+    ∷ reads_by B (made 511 0 None 0) 10 (replicate 3 7) unsound (replicate 3 7)
+    ∷ stands_by (made 511 0 None 0) unsound
+    ∷ seeks_by B (made 512 13 None 0) from_place (pos 0) unsound
+    ∷ seeks_by B (made 512 12 None 0) from_place (pos 0) (A.given (made 512 12 None 0))
+    ∷ reads_by B (made 512 13 None 0) 10 (replicate 3 7) unsound (replicate 3 7)
+    ∷ stands_by (made 512 13 None 0) (A.given nowhere)
+    ∷ seeks_by B (made 512 0 None 1) from_place (pos 0) unsound
+    ∷ reads_by B (made 512 0 None 1) 10 (replicate 3 7) unsound (replicate 3 7)
+    ∷ stands_by (made 512 0 None 1) unsound
+    ∷ seeks_by B (made 512 3 (Some (at 10 0)) 11) from_place (pos 0) unsound
+    ∷ reads_by B (made 512 3 (Some (at 10 0)) 11) 10 (replicate 3 7) unsound (replicate 3 7)
+    ∷ stands_by (made 512 3 (Some (at 10 0)) 11) unsound
+    ∷ stands_by (made 512 3 (Some (at 10 0)) 10) (A.given (at_byte 10))
+    ∷ seeks_by B (made 512 3 (Some (at 10 18446744073709551606)) 4) from_place (pos 0) unsound
+    ∷ reads_by B (made 512 3 (Some (at 10 18446744073709551606)) 4) 10 (replicate 3 7) unsound (replicate 3 7)
+    ∷ stands_by (made 512 3 (Some (at 10 18446744073709551606)) 4) unsound
+    ∷ stands_by (made 512 3 (Some (at 10 18446744073709551605)) 4) (A.given (at_byte 18446744073709551609))
+    ∷ stands_by (made 512 3 (Some (empty 18446744073709551615)) 7) (A.given nowhere)
     -- the lookup rule on B, and on a list that breaks
     ∷ looks_up 512 B 0 (W.position 5120)
     ∷ looks_up 512 B 1023 (W.position 6143)

@@ -1,5 +1,5 @@
 -- Numbers as bytes hold them, numbers that a 64-bit word can hold, and powers of two.
-use Rattle.std.specs.Prelude.{ℕ, zero, suc, ◌+◌, ◌*◌, ◌^◌, Bool, true, false, ◌||◌, List, [], ◌∷◌, take, drop, ltb, eqb, ℤ, pos, negsuc, ◌-ℤ◌}
+use Rattle.std.specs.Prelude.{ℕ, zero, suc, ◌+◌, ◌*◌, ◌^◌, Bool, true, false, ◌||◌, List, [], ◌∷◌, take, drop, ltb, eqb, ℤ, pos, negsuc, ◌-ℤ◌, None, Option, Some}
 use Rattle.format.specs.Pick.{pick}
 
 -- little-endian
@@ -19,17 +19,13 @@ unsigned s from n = little (take n (drop from s))
 unfoldable pub signed : List ℕ → ℕ → ℕ → ℤ
 signed s from n = twos n (unsigned s from n)
 
--- a number from 0 to 2^64 - 1, or one outside
-pub data Word : Type 0 where
-  word : ℕ → Word
-  outside : Word
+-- a number that a 64-bit word can hold: from 0 to 2^64 - 1
+unfoldable pub within : ℕ → Option ℕ
+within n = pick (ltb n (2 ^ 64)) (Some n) None
 
-unfoldable pub within : ℕ → Word
-within n = pick (ltb n (2 ^ 64)) (word n) outside
-
-abbrev pub within_ℤ : ℤ → Word
+abbrev pub within_ℤ : ℤ → Option ℕ
 within_ℤ (pos n) = within n
-within_ℤ (negsuc n) = outside
+within_ℤ (negsuc n) = None
 
 -- n is 2 to one of the m powers from k on
 unfoldable pub is_power : ℕ → ℕ → ℕ → Bool

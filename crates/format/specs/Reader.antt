@@ -1,8 +1,7 @@
 -- The reader of a list: opening, seeking, reading. Over any decoder of runs, so with no cluster size; `Held` in Calls has all seven parts.
-use Rattle.std.specs.Prelude.{ℕ, zero, suc, ◌+◌, ◌-◌, min, List, [], ◌∷◌, ltb, leb, eqb, ℤ, pos, ◌+ℤ◌}
+use Rattle.std.specs.Prelude.{ℕ, zero, suc, ◌+◌, ◌-◌, min, List, [], ◌∷◌, ltb, leb, eqb, ℤ, pos, ◌+ℤ◌, None, Option, Some}
 use Rattle.format.specs.Pick.{pick}
-use Rattle.format.specs.Number.{Word, within_ℤ}
-use Rattle.format.specs.Number.Word.{word, outside}
+use Rattle.format.specs.Number.{within_ℤ}
 use Rattle.format.specs.Runs.{Place, Run, Step}
 use Rattle.format.specs.Runs.Place.{disk, hole}
 use Rattle.format.specs.Runs.Step.{over, found, faulty}
@@ -11,9 +10,8 @@ use Rattle.format.specs.Listed.Answer.{given, refused}
 use Rattle.format.specs.Listed.Listed.{ends, run, breaks}
 
 -- THE READER: where it stands in the list, its place in the stream, the data size.
-pub data Current : Type 0 where
-  none : Current
-  some : Run → Current
+abbrev pub Current : Type 0
+Current = Option Run
 
 pub record Stand : Type 0 where
   pub cursor : ℕ
@@ -28,18 +26,18 @@ pub record Reader : Type 0 where
 
 -- At the list's start with nothing decoded; in front of a run that was fetched; at the list's length.
 abbrev pub start : Stand
-start = record { cursor = 0; lcn = 0; current = none; displacement = 0 }
+start = record { cursor = 0; lcn = 0; current = None; displacement = 0 }
 
 abbrev pub entered : Run → ℕ → ℕ → Stand
-entered r a l = record { cursor = a; lcn = l; current = some r; displacement = 0 }
+entered r a l = record { cursor = a; lcn = l; current = Some r; displacement = 0 }
 
 abbrev pub at_end : RunList → ℕ → Current → ℕ → Stand
 at_end L l c d = record { cursor = L.fin; lcn = l; current = c; displacement = d }
 
 -- What is left of the current run, nothing without one; the displacement moved.
 unfoldable pub left_of : Current → ℕ → ℕ
-left_of none d = 0
-left_of (some r) d = r.size - d
+left_of None d = 0
+left_of (Some r) d = r.size - d
 
 abbrev pub left : Stand → ℕ
 left s = left_of s.current s.displacement
@@ -50,7 +48,7 @@ moved s n = record { cursor = s.cursor; lcn = s.lcn; current = s.current; displa
 -- The next run is fetched. It is the current one if n is below its size; otherwise its size is taken off n and the next one fetched.
 -- If there is none the current run becomes none.
 unfoldable pub settle : RunList → Listed → ℕ → Answer Stand
-settle L (ends l) n = given (at_end L l none 0)
+settle L (ends l) n = given (at_end L l None 0)
 settle L (run r a l rest) n = pick (ltb n r.size) (given (moved (entered r a l) n)) (settle L rest (n - r.size))
 settle L (breaks k v) n = refused k v
 
@@ -82,9 +80,9 @@ base place size from_start = 0
 base place size from_place = place
 base place size from_end = size
 
-abbrev pub in_range : Word → Answer ℕ
-in_range (word t) = given t
-in_range outside = refused 20 []
+abbrev pub in_range : Option ℕ → Answer ℕ
+in_range (Some t) = given t
+in_range None = refused 20 []
 
 unfoldable pub target : ℕ → ℤ → Answer ℕ
 target b z = in_range (within_ℤ (pos b +ℤ z))
@@ -108,8 +106,8 @@ further (disk d) i = disk (d + i)
 further hole i = hole
 
 unfoldable pub here : Current → ℕ → Place
-here none d = hole
-here (some r) d = further r.place d
+here None d = hole
+here (Some r) d = further r.place d
 
 abbrev pub nothing : Reader → Reading
 nothing r = record { spans = []; bytes = 0; reader = r }

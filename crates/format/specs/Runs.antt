@@ -1,9 +1,8 @@
 -- Run lists: what stands at a cursor of a list after a previous LCN, with refusals 13 to 19 in their order, each its number and its
 -- values. The cursor given is the refused run's header.
-use Rattle.std.specs.Prelude.{ℕ, ◌+◌, ◌-◌, ◌*◌, ◌/◌, ◌%◌, ◌^◌, ◌<◌, Bool, true, not, List, [], ◌∷◌, length, get_or, ltb, leb, eqb, ℤ, pos, negsuc, ◌+ℤ◌}
+use Rattle.std.specs.Prelude.{ℕ, ◌+◌, ◌-◌, ◌*◌, ◌/◌, ◌%◌, ◌^◌, ◌<◌, Bool, true, not, List, [], ◌∷◌, length, get_or, ltb, leb, eqb, ℤ, pos, negsuc, ◌+ℤ◌, None, Option, Some}
 use Rattle.format.specs.Pick.{pick}
-use Rattle.format.specs.Number.{unsigned, signed, within, within_ℤ, cluster_sound, Word}
-use Rattle.format.specs.Number.Word.{word, outside}
+use Rattle.format.specs.Number.{unsigned, signed, within, within_ℤ, cluster_sound}
 
 -- a run is a size in bytes with either a disk place or a hole inside it
 pub data Place : Type 0 where
@@ -36,14 +35,14 @@ Inside hole size = Unit {0}
 
 module _ (cluster at : ℕ) where
   -- at a place: 18, 19
-  abbrev pub on_disk : ℕ → ℕ → ℕ → Word → Step
-  on_disk next lcn size outside = faulty 18 (pos at ∷ [])
-  on_disk next lcn size (word p) = pick (ends p size) (found (record { size = size; place = disk p }) next lcn) (faulty 19 (pos at ∷ []))
+  abbrev pub on_disk : ℕ → ℕ → ℕ → Option ℕ → Step
+  on_disk next lcn size None = faulty 18 (pos at ∷ [])
+  on_disk next lcn size (Some p) = pick (ends p size) (found (record { size = size; place = disk p }) next lcn) (faulty 19 (pos at ∷ []))
 
   -- at the LCN that the delta d of n bytes leads to: 17
-  abbrev pub moved : ℕ → ℕ → ℕ → ℕ → ℤ → Word → Step
-  moved next lcn size n d outside = faulty 17 (pos at ∷ pos lcn ∷ [])
-  moved next lcn size n d (word to) = pick (is_hole n d to) (found (record { size = size; place = hole }) next to) (on_disk next to size (within (to * cluster)))
+  abbrev pub moved : ℕ → ℕ → ℕ → ℕ → ℤ → Option ℕ → Step
+  moved next lcn size n d None = faulty 17 (pos at ∷ pos lcn ∷ [])
+  moved next lcn size n d (Some to) = pick (is_hole n d to) (found (record { size = size; place = hole }) next to) (on_disk next to size (within (to * cluster)))
 
   -- the delta, of n bytes: 13, 14
   unfoldable pub delta_part : List ℕ → ℕ → ℕ → ℕ → ℕ → Step
@@ -53,9 +52,9 @@ module _ (cluster at : ℕ) where
       (moved (from + n) lcn size n (signed s from n) (within_ℤ (pos lcn +ℤ signed s from n))))
 
   -- with the size, where it is one: 16
-  abbrev pub sized : List ℕ → ℕ → ℕ → Word → Step
-  sized s lcn head outside = faulty 16 (pos at ∷ [])
-  sized s lcn head (word size) = delta_part s lcn (at + 1 + head % 16) (head / 16) size
+  abbrev pub sized : List ℕ → ℕ → ℕ → Option ℕ → Step
+  sized s lcn head None = faulty 16 (pos at ∷ [])
+  sized s lcn head (Some size) = delta_part s lcn (at + 1 + head % 16) (head / 16) size
 
   -- the count, of as many bytes as the header's low nibble says: 13, 14, 15
   unfoldable pub count_part : List ℕ → ℕ → ℕ → Step

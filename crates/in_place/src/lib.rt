@@ -1,57 +1,30 @@
-// Thin calls that change a lent reader in place: the reader is copied out, the by-value method is called, and what it leaves is stored.
+//! Thin calls that change a lent reader in place: the reader is copied out, the by-value method is called, and what it
+//! leaves is stored. A refused call leaves the reader as it was.
 #![tactic(auto)]
 
-ghost use Rattle.std.specs.Prelude.{◌≡◌};
-ghost use Rattle.format.specs.Calls.{held, leaves};
-ghost use Rattle.non_resident.specs.Shown.{seen, shown_sought, shown_outcome};
 ghost use Rattle.in_place.specs.Promise.{Seeks, Reads};
 
-use non_resident::{By, From, Outcome, Reader, Sought};
+use non_resident::{Reader, Reading, Whence};
+use refusal::Refusal;
 
-// What a call leaves: the new reader, or the old one where it was refused.
-fn left(a: Sought, old: Reader) -> Reader
-    ensures { seen result ≡ leaves (seen old) (shown_sought a) }
+/// [`Reader::seek`] on a lent reader, which is then the reader of the answer.
+pub fn seek(reader: &mut Reader, list: &[u8], from: Whence, by: i128) -> Result<Reader, Refusal>
+    ensures { Seeks reader.old list.now from by result reader.new }
 {
-    match a {
-        Sought::At(r) => r,
-        Sought::Refused(_) => old,
-    }
+    *reader = reader.seek(list, from, by)?;
+    Ok(*reader)
 }
 
-fn reached(a: Outcome) -> Sought
-    ensures { shown_sought result ≡ held (shown_outcome a) }
+/// [`Reader::read`] on a lent reader, which is then the reader of the answer.
+pub fn read(
+    reader: &mut Reader,
+    list: &[u8],
+    wanted: u64,
+    store: &mut [u64],
+) -> Result<Reading, Refusal>
+    ensures { Reads reader.old list.now wanted store.old result reader.new store.new }
 {
-    match a {
-        Outcome::Given(g) => {
-            let next = g.reader;
-            Sought::At(next)
-        }
-        Outcome::Refused(x) => Sought::Refused(x),
-    }
-}
-
-fn left_by_read(a: Outcome, old: Reader) -> Reader
-    ensures { seen result ≡ leaves (seen old) (held (shown_outcome a)) }
-{
-    left(reached(a), old)
-}
-
-// `Reader::seek` on a lent reader.
-pub fn seek(r: &mut Reader, list: &[u8], from: From, by: By) -> Sought
-    ensures { Seeks r.old list.now from by result r.new }
-{
-    let old = *r;
-    let a = old.seek(list, from, by);
-    *r = left(a, old);
-    a
-}
-
-// `Reader::read` on a lent reader.
-pub fn read(r: &mut Reader, list: &[u8], w: u64, store: &mut [u64]) -> Outcome
-    ensures { Reads r.old list.now w store.old result r.new store.new }
-{
-    let old = *r;
-    let a = old.read(list, w, store);
-    *r = left_by_read(a, old);
-    a
+    let reading = reader.read(list, wanted, store)?;
+    *reader = reading.reader;
+    Ok(reading)
 }

@@ -1,72 +1,50 @@
-// Where one offset of a run list lies, worked out from the list alone.
+//! Where one offset of a run list lies, worked out from the list alone.
 #![tactic(auto)]
 
-ghost use Rattle.std.specs.Prelude.{◌≡◌, ◌+◌, ◌<◌, ◌^◌};
-ghost use Rattle.format.specs.Runs.{Inside};
-ghost use Rattle.format.specs.Listed.{byte, lookup, listed, run_list, list_fits, looked_up};
-ghost use Rattle.data_runs.specs.Shown.{shown_place};
+ghost use Rattle.std.specs.Prelude.{◌≡◌};
+ghost use Rattle.format.specs.Listed.{lookup, listed, run_list, looked_up};
 ghost use Rattle.lookup.specs.Shown.{shown};
 
-use data_runs::{Cursor, Decoded, Place};
+use data_runs::{Cursor, Place};
 use refusal::Refusal;
+use types::ClusterSize;
 
-#[derive(Clone, Copy)]
-pub enum Found {
-    Disk(u64),
-    Hole,
-    NotCovered,
-    Refused(Refusal),
-}
-
+/// The longest list that is looked up in, in bytes.
 pub const MAX_LIST: usize = 4096;
 
-fn list_fits(n: usize) -> bool
-    ensures { result ≡ list_fits n }
-{
-    n <= MAX_LIST
-}
-
-// An offset inside a run.
-fn within(place: Place, offset: u64) -> Found
-    requires { Inside (shown_place place) offset }
-    ensures { shown result ≡ byte (shown_place place) offset }
-{
-    match place {
-        Place::Disk(p) => Found::Disk(p + offset),
-        Place::Hole => Found::Hole,
-    }
-}
-
-// The first run from a cursor on, or the rest of the list with the run's size taken off.
-fn from(list: &[u8], cluster: u64, at: usize, lcn: u64, offset: u64) -> Found
-    requires { 0 < cluster }
-    ensures { shown result ≡ lookup (listed (run_list cluster list.now) at lcn) offset }
-{
-    let c = Cursor { at, lcn };
-    match c.decode(list, cluster) {
-        Decoded::Run(run, next) => {
-            let size = run.size;
-            if offset < size {
-                let p = run.place;
-                within(p, offset)
-            } else {
-                from(list, cluster, next.at, next.lcn, offset - size)
-            }
-        }
-        Decoded::Over => Found::NotCovered,
-        Decoded::Refused(x) => Found::Refused(x),
-    }
-}
-
-// Where an offset of the stream lies: 21, then 22, then runs.
-pub fn lookup(list: &[u8], cluster: u64, offset: u64) -> Found
+/// Where an offset of the stream, in bytes, lies: on the disk, in a hole, or nowhere, since the list doesn't cover it.
+///
+/// Refused is, in this order: `Unsound`, a cluster size that isn't a power of two from 512 to 2,097,152;
+/// `ListLength`, a list of more than 4,096 bytes; what a run that is met before the offset is refused with (13 to
+/// 19).
+#[tactic(auto, unfolding(format::specs::Listed::looked_up, format::specs::Listed::list_fits, format::specs::Pick::pick))]
+pub fn lookup(list: &[u8], cluster: u64, offset: u64) -> Result<Option<Place>, Refusal>
     ensures { shown result ≡ looked_up cluster list.now offset }
 {
-    if !types::cluster_sound(cluster) {
-        return Found::Refused(Refusal::Unsound);
+    let cluster = ClusterSize::new(cluster).ok_or(Refusal::Unsound)?;
+    if list.len() > MAX_LIST {
+        return Err(Refusal::ListLength);
     }
-    if !list_fits(list.len()) {
-        return Found::Refused(Refusal::ListLength);
+    from(list, cluster, Cursor::START, offset)
+}
+
+/// The same from a cursor on: the first run, or the rest of the list with the run's size taken off. It calls itself
+/// and is no loop, as the rule is said; a list of 4,096 bytes is at most 2,049 calls deep.
+#[tactic(auto, using(crate::proofs::Rule::lookup_rule, crate::proofs::Rule::inside_run), unfolding(format::specs::Pick::pick))]
+fn from(
+    list: &[u8],
+    cluster: ClusterSize,
+    cursor: Cursor,
+    offset: u64,
+) -> Result<Option<Place>, Refusal>
+    ensures { shown result ≡ lookup (listed (run_list cluster list.now) cursor.at cursor.lcn) offset }
+{
+    let Some((run, next)) = cursor.decode(list, cluster.bytes())? else {
+        return Ok(None);
+    };
+    if offset >= run.size {
+        return from(list, cluster, next, offset - run.size);
     }
-    from(list, cluster, 0, 0, offset)
+    // inside the run, which ends at 2^64 - 1 or before, so there is a place
+    Ok(run.place.further(offset))
 }

@@ -1,5 +1,6 @@
--- What the loop that lays spans keeps: the words of the spans so far stand in front of the store as it was, and what is left of the read,
--- put behind those spans, is the whole read.
+-- What the loop that lays spans keeps: the words of the spans so far stand in front of the store as it was, and what is
+-- left of the read, put behind those spans, is the whole read.
+use Rattle.std.specs.Prelude.{Some, None, Option, option_map, ◌^◌}
 use Prim.Native.Nat.{ℕ, zero, suc, ◌+◌, ◌-◌, ◌*◌, ◌<◌, ◌≤◌}
 use mathlib.Core.Path.{◌≡◌, refl, sym, ap, subst, ◌∙◌}
 use mathlib.Core.Bool.{true}
@@ -10,22 +11,60 @@ use lib.ListN.{length, take, drop, length-append, length-drop}
 use lib.IntN.{ℤ}
 use lib.Seq.{sets, sets-eq, take_at, drop_at, drop-drop}
 use Rattle.format.specs.Runs.{Run, Step, Inside}
+use borrow.Author.Tests.{lt-ltb}
+use Rattle.format.specs.Pick.{pick_yes, pick_no, pick_true}
+use Rattle.std.specs.Option.{unwrap_or}
+use Rattle.format.specs.Reader.Position.{at_byte, nowhere}
+use Rattle.non_resident.specs.declared.Reader.{Reader as ReaderOf}
+use Rattle.std.proofs.Common.{not}
+use Rattle.format.specs.Number.{within, cluster_sound}
+use Rattle.data_runs.specs.declared.Run.{Run as RunOf}
+use Rattle.data_runs.specs.declared.Place.{Place as PlaceOf}
+use Rattle.data_runs.specs.declared.Place.TheVariants.{Disk, Hole}
+use Rattle.data_runs.specs.Shown.{shown_place, shown_run, further_on}
 use Rattle.format.specs.Runs.Step.{over, found, faulty}
 use Rattle.format.specs.Listed.{Answer, either, RunList, run_list}
 use Rattle.format.specs.Listed.Answer.{given, refused}
-use Rattle.format.specs.Reader.{Stand, Reader, Span, Reading, nothing, before, Turn, give, fetch, turn, follow, read}
-use Rattle.format.specs.Reader.Current.{some}
+use borrow.Rule.Slice.PartMut.{put_mid}
+use Rattle.format.specs.Reader.{position_of, here, further, Stand, Reader, Span, Reading, nothing, before, Turn, give, fetch, turn, follow, read}
 use Rattle.format.specs.Reader.Turn.{stops, gives, refuses}
-use Rattle.format.specs.Calls.{Held, current_sound, Count, counted, words, stored}
+use Rattle.format.specs.Calls.{Held, sound, standing, current_sound, Count, counted, words, stored}
 use Rattle.format.specs.History.{total}
 use Rattle.format.proofs.Runs.{inside_less, lawful, found_inside}
 use Rattle.format.proofs.Reader.{turn_all}
-use Rattle.format.proofs.Sound.{Good, current_fits, GoodTurn, turn_good}
-use Rattle.non_resident.specs.Shown.{span_words}
+use Rattle.format.proofs.Sound.{fits_sound, Good, current_fits, GoodTurn, turn_good}
+use Rattle.non_resident.specs.Shown.{seen, span_words, place_at}
 
 -- the displacement of a sound run fits behind its place
-pub run_fits : (r : Run) (d : ℕ) → current_sound (some r) d ≡ true → Inside r.place d
-run_fits r d e = let h = current_fits (some r) d e in inside_less r.place r.size d h.1 h.0
+pub run_fits : (r : Run) (d : ℕ) → current_sound (Some r) d ≡ true → Inside r.place d
+run_fits r d e = let h = current_fits (Some r) d e in inside_less r.place r.size d h.1 h.0
+
+-- a run that was just fetched is sound in front
+pub entered_sound : (run : RunOf) → Inside (shown_place run.place) run.size → current_sound (Some (shown_run run)) 0 ≡ true
+entered_sound run h = fits_sound (Some (shown_run run)) 0 (omega arith, h)
+
+-- the code's place of a sound displacement is the definition's
+pub here_sound : (current : Option RunOf) (d : ℕ) → current_sound (option_map shown_run current) d ≡ true → shown_place (place_at current d) ≡ here (option_map shown_run current) d
+unfolding here further within
+here_sound None d e = refl
+here_sound (Some r) d e = go r.place (run_fits (shown_run r) d e)
+  where
+    go : (place : PlaceOf) → Inside (shown_place place) d → shown_place (unwrap_or (further_on place d) Hole) ≡ further (shown_place place) d
+    go (Disk p) h = rw (pick_yes (Some (p + d)) None (lt-ltb (p + d) (2 ^ 64) h)) refl
+    go Hole h = refl
+
+-- data position of a sound reader, by the code's place
+position_rule : (r : ReaderOf) → sound (seen r) ≡ true → given (position_of (shown_place (place_at r.stand.current r.stand.displacement))) ≡ standing (seen r)
+unfolding sound standing
+position_rule r e =
+    let fits = (pick_true (not (cluster_sound r.cluster)) _ e).1 in
+    ap (λ p. given (position_of p)) (here_sound r.stand.current r.stand.displacement fits) ∙ sym (pick_no _ _ (ap not e))
+
+pub on_disk : (r : ReaderOf) (n : ℕ) → sound (seen r) ≡ true → place_at r.stand.current r.stand.displacement ≡ Disk n → given (at_byte n) ≡ standing (seen r)
+on_disk r n e h = ap (λ p. given (position_of (shown_place p))) (sym h) ∙ position_rule r e
+
+pub in_hole : (r : ReaderOf) → sound (seen r) ≡ true → place_at r.stand.current r.stand.displacement ≡ Hole → given nowhere ≡ standing (seen r)
+in_hole r e h = ap (λ p. given (position_of (shown_place p))) (sym h) ∙ position_rule r e
 
 -- SPANS AND THEIR WORDS, one more.
 words_length : (xs : List Span) → length (words xs) ≡ 3 * length xs
@@ -42,6 +81,12 @@ total_more : (xs : List Span) (x : Span) → total (xs ++ x ∷ []) ≡ total xs
 unfolding total
 total_more [] x = omega arith
 total_more (y ∷ ys) x = omega (arith, total_more ys x)
+
+-- three words put into the part of a store that they fill
+pub part_put : (store three : List ℕ) (at : ℕ) → length three ≡ 3 → at + 3 ≤ length store → put_mid at (at + 3 - at) store three ≡ sets store at three
+part_put store three at e h =
+    let k : at + 3 - at ≡ 3 = omega arith in
+    rw k (sym (sets-eq three store at (omega (arith, e)) ∙ rw (e, ← (drop-drop 3 at store)) (append_assoc (take at store) three (drop 3 (drop at store)))))
 
 -- Three words behind the first ones.
 store_more : (front store three : List ℕ) (n : ℕ) → length front ≡ n → length three ≡ 3 → n + 3 ≤ length store
@@ -133,11 +178,6 @@ module _ (list : List ℕ) {cluster : ℕ} {store₀ : List ℕ} {room w : ℕ} 
     (i : Laid (run_list cluster list) cluster store₀ room w r₀ store h k rest) where
   abbrev L : RunList
   L = run_list cluster list
-
-  pub laid_length : length store ≡ length store₀
-  laid_length =
-      ap length i.store_is ∙ length-append (words i.done) (drop (3 * k) store₀)
-      ∙ rw (words_length i.done, i.count, length-drop (3 * k) store₀) (omega (arith, i.few, i.enough))
 
   pub laid_short : (x : Span) (r : Reader) → turn L rest h.reader ≡ gives x r → x.length ≤ rest
   laid_short x r e = subst (Short rest) e (turn_short L rest h.reader)

@@ -1,520 +1,265 @@
-// The reader of a non-resident value: opening, seeking, reading into a store of spans, data position.
+//! The reader of a non-resident value: opening, seeking, reading into a store of spans, data position.
 #![tactic(auto)]
 
-ghost use Rattle.std.specs.Prelude.{◌≡◌, true, ◌+◌, ◌/◌, ◌^◌, ◌<◌, ◌≤◌, min, length, pos, ◌+ℤ◌};
-ghost use Rattle.std.proofs.lemmas.List.Edits.{sets};
-ghost use Rattle.format.specs.Number.{within_ℤ};
-ghost use Rattle.format.specs.Runs.{step, Inside};
-ghost use Rattle.format.specs.Listed.{run_list, listed};
-ghost use Rattle.format.specs.Listed.Answer.{given};
-ghost use Rattle.format.specs.Reader.{left_of, start, at, settle, forward, seek_to, base, further, here, give, fetch, turn, read};
-ghost use Rattle.format.specs.Calls.{hold, place_sound, current_sound, sound, sound_in, opening, seeking, reading, counted, stored, standing};
-ghost use Rattle.types.specs.Shown.{shown_word};
-ghost use Rattle.data_runs.specs.Shown.{shown_place};
-ghost use Rattle.non_resident.specs.Shown.{shown_current, shown_stand, seen, amount_of, shown_from, shown_settled, shown_sought, shown_span, shown_turn, SameCluster, span_words, shown_outcome, shown_position};
+mod span;
+mod stand;
 
-use data_runs::{Cursor, Decoded, Place, Run};
+ghost use Rattle.std.specs.Prelude.{◌≡◌, true, ◌+◌, ◌/◌, ◌≤◌, length, Ok, Err, IfOk, if◌then◌else◌};
+ghost use Rattle.refusal.specs.declared.Refusal.TheVariants.{Unsound};
+ghost use Rattle.format.specs.Runs.{step};
+ghost use Rattle.format.specs.Listed.{run_list};
+ghost use Rattle.format.specs.Reader.{seek_to, base, give, fetch, turn, read};
+ghost use Rattle.format.specs.Calls.{hold, current_sound, sound, sound_in, opening, seeking, reading, counted, stored};
+ghost use Rattle.format.specs.Calls.{standing};
+ghost use Rattle.non_resident.specs.Shown.{shown_current, shown_stand, seen, shown_from, shown_sought, shown_turn};
+ghost use Rattle.non_resident.specs.Shown.{shown_reading, shown_outcome, shown_position};
+
+use data_runs::{Cursor, Place};
 use refusal::Refusal;
-use types::{Delta, Word};
+use span::Span;
+pub use stand::Stand;
+use types::ClusterSize;
 
-#[derive(Clone, Copy)]
-pub enum Current {
-    Nothing,
-    At(Run),
-}
-
-// Between calls: the list is lent with each of them.
-#[derive(Clone, Copy)]
+/// A reader between calls; the list is lent with each of them.
+#[derive(Clone, Copy, Debug, PartialEq, Eq)]
 pub struct Reader {
+    /// The size of a cluster in bytes.
     pub cluster: u64,
-    pub cursor: usize,
-    pub lcn: u64,
-    pub current: Current,
-    pub displacement: u64,
+    /// Where it stands in the list.
+    pub stand: Stand,
+    /// Its place in the stream, in bytes from the start.
     pub place: u64,
+    /// The data size: how many bytes the stream has.
     pub size: u64,
 }
 
-#[derive(Clone, Copy)]
-pub enum From {
+/// What a seek counts from: the stream's start, the reader's place, or the data's end.
+#[derive(Clone, Copy, Debug, PartialEq, Eq)]
+pub enum Whence {
     Start,
     Place,
     End,
 }
 
-#[derive(Clone, Copy)]
-pub enum By {
-    Unsigned(u64),
-    Signed(i64),
-}
-
-#[derive(Clone, Copy)]
-pub enum Sought {
-    At(Reader),
-    Refused(Refusal),
-}
-
-// Span count, byte count and reader.
-#[derive(Clone, Copy)]
+/// What a read gave: how many spans, how many bytes they have, and the reader afterwards.
+#[derive(Clone, Copy, Debug, PartialEq, Eq)]
 pub struct Reading {
     pub spans: usize,
     pub bytes: u64,
     pub reader: Reader,
 }
 
-#[derive(Clone, Copy)]
-pub enum Outcome {
-    Given(Reading),
-    Refused(Refusal),
-}
-
-#[derive(Clone, Copy)]
-pub enum Position {
-    At(u64),
-    Nowhere,
-    Refused(Refusal),
-}
-
-// Where a reader stands in its list: the cursor behind the current run, and the displacement in that run.
-#[derive(Clone, Copy)]
-struct Stand {
-    cursor: Cursor,
-    current: Current,
-    displacement: u64,
-}
-
-#[derive(Clone, Copy)]
-enum Settled {
-    At(Stand),
-    Refused(Refusal),
-}
-
-#[derive(Clone, Copy)]
-struct Span {
-    place: Place,
-    length: u64,
-}
-
-// What comes next of a read.
-#[derive(Clone, Copy)]
-enum Turn {
-    Stop(Reader),
-    Give(Span, Reader),
-    Refused(Refusal),
-}
-
-fn place_sound(p: Place, size: u64) -> bool
-    ensures { result ≡ place_sound (shown_place p) size }
-{
-    match p {
-        Place::Disk(place) => data_runs::ends_inside(place, size),
-        Place::Hole => true,
-    }
-}
-
-fn current_sound(k: Current, d: u64) -> bool
-    ensures { result ≡ current_sound (shown_current k) d }
-{
-    match k {
-        Current::At(run) => {
-            let size = run.size;
-            if size < d {
-                return false;
-            }
-            let p = run.place;
-            place_sound(p, size)
-        }
-        Current::Nothing => d == 0,
-    }
-}
-
-// What is left of a current run.
-fn left_of(k: Current, d: u64) -> u64
-    ensures { (result ≡ left_of (shown_current k) d) × (result + d < 2 ^ 64) }
-{
-    match k {
-        Current::At(run) => {
-            let size = run.size;
-            if d <= size { size - d } else { 0 }
-        }
-        Current::Nothing => 0,
-    }
-}
-
-// The place of a displacement in a run.
-fn place_at(p: Place, d: u64) -> Place
-    requires { Inside (shown_place p) d }
-    ensures { shown_place result ≡ further (shown_place p) d }
-{
-    match p {
-        Place::Disk(place) => Place::Disk(place + d),
-        Place::Hole => Place::Hole,
-    }
-}
-
-fn here(k: Current, d: u64) -> Place
-    requires { current_sound (shown_current k) d ≡ true }
-    ensures { shown_place result ≡ here (shown_current k) d }
-{
-    match k {
-        Current::At(run) => {
-            let p = run.place;
-            place_at(p, d)
-        }
-        Current::Nothing => Place::Hole,
-    }
-}
-
-fn least(a: u64, b: u64) -> u64
-    ensures { result ≡ min a b }
-{
-    if a <= b { a } else { b }
-}
-
-// Over whole runs, from a cursor on: where n bytes on stand.
-fn settle(list: &[u8], cluster: u64, from: Cursor, by: u64) -> Settled
-    requires { 0 < cluster }
-    ensures { shown_settled result ≡ settle (run_list cluster list.now) (listed (run_list cluster list.now) from.at from.lcn) by }
-{
-    let mut c = from;
-    let mut n = by;
-    loop {
-        match c.decode(list, cluster) {
-            Decoded::Run(run, next) => {
-                let size = run.size;
-                if n < size {
-                    return Settled::At(Stand {
-                        cursor: next,
-                        current: Current::At(run),
-                        displacement: n,
-                    });
-                }
-                n = n - size;
-                c = next;
-            }
-            Decoded::Over => {
-                let lcn = c.lcn;
-                return Settled::At(Stand {
-                    cursor: Cursor {
-                        at: list.len(),
-                        lcn,
-                    },
-                    current: Current::Nothing,
-                    displacement: 0,
-                });
-            }
-            Decoded::Refused(x) => {
-                return Settled::Refused(x);
-            }
-        }
-    }
-}
-
-// By some bytes: inside the current run only the displacement moves, otherwise whole runs are passed.
-fn forward(list: &[u8], cluster: u64, s: Stand, by: u64) -> Settled
-    requires { 0 < cluster }
-    ensures { shown_settled result ≡ forward (run_list cluster list.now) (shown_stand s) by }
-{
-    let k = s.current;
-    let d = s.displacement;
-    let c = s.cursor;
-    let left = left_of(k, d);
-    if by < left {
-        return Settled::At(Stand {
-            cursor: c,
-            current: k,
-            displacement: d + by,
-        });
-    }
-    settle(list, cluster, c, by - left)
-}
-
-// At the list's start with nothing decoded.
-fn start() -> Stand
-    ensures { shown_stand result ≡ start }
-{
-    Stand {
-        cursor: Cursor { at: 0, lcn: 0 },
-        current: Current::Nothing,
-        displacement: 0,
-    }
-}
-
-fn arrived(cluster: u64, size: u64, place: u64, s: Settled) -> Sought
-    ensures { shown_sought result ≡ hold cluster (at place size (shown_settled s)) }
-{
-    match s {
-        Settled::At(t) => {
-            let c = t.cursor;
-            let k = t.current;
-            Sought::At(Reader {
-                cluster,
-                cursor: c.at,
-                lcn: c.lcn,
-                current: k,
-                displacement: t.displacement,
-                place,
-                size,
-            })
-        }
-        Settled::Refused(x) => Sought::Refused(x),
-    }
-}
-
-fn base(place: u64, size: u64, from: From) -> u64
-    ensures { result ≡ base place size (shown_from from) }
-{
-    match from {
-        From::Start => 0,
-        From::Place => place,
-        From::End => size,
-    }
-}
-
-fn target_of(base: u64, by: By) -> Word
-    ensures { shown_word result ≡ within_ℤ (pos base +ℤ amount_of by) }
-{
-    match by {
-        By::Unsigned(n) => types::sum(base, Delta::Up(n)),
-        By::Signed(d) => types::sum(base, Delta::of(d)),
-    }
-}
-
-// Three words of the store: position, length, kind.
-fn put_span(store: &mut [u64], b: usize, s: Span)
-    requires { b + 3 ≤ length store.old }
-    ensures { store.new ≡ sets store.old b (span_words (shown_span s)) }
-{
-    let p = s.place;
-    let n = s.length;
-    match p {
-        Place::Disk(d) => {
-            store[b] = d;
-            store[b + 1] = n;
-            store[b + 2] = 1;
-        }
-        Place::Hole => {
-            store[b] = 0;
-            store[b + 1] = n;
-            store[b + 2] = 0;
-        }
-    }
-}
-
-fn answered(spans: usize, bytes: u64, reader: Reader) -> Outcome
-    ensures { shown_outcome result ≡ given (record { spans = spans; bytes = bytes; reader = seen reader }) }
-{
-    Outcome::Given(Reading {
-        spans,
-        bytes,
-        reader,
-    })
-}
-
 impl Reader {
-    // A new reader at place 0: 21, then runs.
-    pub fn open(list: &[u8], cluster: u64, size: u64) -> Sought
+    /// A new reader at place 0, of a stream of so many bytes, with the first run decoded.
+    ///
+    /// Refused is `Unsound`, a cluster size that isn't a power of two from 512 to 2,097,152; then what the first run is
+    /// refused with.
+    #[tactic(auto, unfolding(format::specs::Calls::opening, format::specs::Reader::opened, format::specs::Pick::pick))]
+    pub fn open(list: &[u8], cluster: u64, size: u64) -> Result<Reader, Refusal>
         ensures { shown_sought result ≡ opening cluster list.now size }
     {
-        if !types::cluster_sound(cluster) {
-            return Sought::Refused(Refusal::Unsound);
-        }
-        let s = forward(list, cluster, start(), 0);
-        arrived(cluster, size, 0, s)
+        let sound = ClusterSize::new(cluster).ok_or(Refusal::Unsound)?;
+        let stand = Stand::START.forward(list, sound, 0)?;
+        Ok(Reader {
+            cluster,
+            stand,
+            place: 0,
+            size,
+        })
     }
 
-    fn is_sound(self) -> bool
-        ensures { result ≡ sound (seen self) }
+    /// The cluster size of a reader that is sound apart from its cursor, or `Unsound`.
+    #[tactic(auto, unfolding(format::specs::Calls::sound, format::specs::Pick::pick))]
+    fn sound(self) -> Result<ClusterSize, Refusal>
+        ensures { result ≡ (if sound (seen self) then Ok self.cluster else Err Unsound) }
     {
-        if !types::cluster_sound(self.cluster) {
-            return false;
+        let cluster = ClusterSize::new(self.cluster).ok_or(Refusal::Unsound)?;
+        if !self.stand.is_sound() {
+            return Err(Refusal::Unsound);
         }
-        let k = self.current;
-        current_sound(k, self.displacement)
+        Ok(cluster)
     }
 
+    /// The same of a reader that is sound in a list of `end` bytes.
     #[tactic(auto, unfolding(format::specs::Calls::sound_in, format::specs::Pick::pick))]
-    fn is_sound_in(self, end: usize) -> bool
-        ensures { result ≡ sound_in end (seen self) }
+    fn sound_in(self, end: usize) -> Result<ClusterSize, Refusal>
+        ensures { result ≡ (if sound_in end (seen self) then Ok self.cluster else Err Unsound) }
     {
-        if end < self.cursor {
-            return false;
+        if self.stand.cursor.at > end {
+            return Err(Refusal::Unsound);
         }
-        self.is_sound()
+        self.sound()
     }
 
-    fn stand(self) -> Stand
-        ensures { shown_stand result ≡ (seen self).reader.stand }
+    /// To a place in the stream: there already, behind, ahead.
+    #[tactic(auto, unfolding(format::specs::Reader::seek_to, format::specs::Pick::pick))]
+    fn seek_to(self, list: &[u8], cluster: ClusterSize, place: u64) -> Result<Reader, Refusal>
+        ensures { shown_sought result ≡ hold self.cluster (seek_to (run_list cluster list.now) (seen self).reader place) }
     {
-        let k = self.current;
-        Stand {
-            cursor: Cursor {
-                at: self.cursor,
-                lcn: self.lcn,
-            },
-            current: k,
-            displacement: self.displacement,
+        if place == self.place {
+            return Ok(self);
         }
-    }
-
-    // To a place in the stream: there already, behind, ahead.
-    fn seek_to(self, list: &[u8], t: u64) -> Sought
-        requires { 0 < self.cluster }
-        ensures { shown_sought result ≡ hold self.cluster (seek_to (run_list self.cluster list.now) (seen self).reader t) }
-    {
-        let place = self.place;
-        if t == place {
-            return Sought::At(self);
-        }
-        if t < place {
-            let behind = forward(list, self.cluster, start(), t);
-            return arrived(self.cluster, self.size, t, behind);
-        }
-        let ahead = forward(list, self.cluster, self.stand(), t - place);
-        arrived(self.cluster, self.size, t, ahead)
-    }
-
-    // From the start, the place or the data's end: 21, then 20, then runs.
-    pub fn seek(self, list: &[u8], from: From, by: By) -> Sought
-        ensures { shown_sought result ≡ seeking list.now (seen self) (shown_from from) (amount_of by) }
-    {
-        if !self.is_sound_in(list.len()) {
-            return Sought::Refused(Refusal::Unsound);
-        }
-        match target_of(base(self.place, self.size, from), by) {
-            Word::Out => Sought::Refused(Refusal::Target),
-            Word::Is(t) => self.seek_to(list, t),
-        }
-    }
-
-    // A span of the run where s stands: the least of the remainders w, run and data.
-    fn give(self, w: u64, s: Stand) -> Turn
-        requires { (self.place ≤ self.size) × (current_sound (shown_current s.current) s.displacement ≡ true) }
-        ensures { (shown_turn result ≡ give w (seen self).reader (shown_stand s)) × SameCluster self.cluster result }
-    {
-        let k = s.current;
-        let d = s.displacement;
-        let c = s.cursor;
-        let n = least(w, least(left_of(k, d), self.size - self.place));
-        Turn::Give(
-            Span {
-                place: here(k, d),
-                length: n,
-            },
-            Reader {
-                cluster: self.cluster,
-                cursor: c.at,
-                lcn: c.lcn,
-                current: k,
-                displacement: d + n,
-                place: self.place + n,
-                size: self.size,
-            },
-        )
-    }
-
-    // With the next run fetched.
-    fn fetch(self, list: &[u8], w: u64) -> Turn
-        requires { (0 < self.cluster) × (self.place ≤ self.size) }
-        ensures { (shown_turn result ≡ fetch (run_list self.cluster list.now) w (seen self).reader (step self.cluster list.now self.cursor self.lcn)) × SameCluster self.cluster result }
-    {
-        let c = Cursor {
-            at: self.cursor,
-            lcn: self.lcn,
+        let stand = match place.checked_sub(self.place) {
+            Some(ahead) => self.stand.forward(list, cluster, ahead)?,
+            None => Stand::START.forward(list, cluster, place)?,
         };
-        let kept = self.current;
-        match c.decode(list, self.cluster) {
-            Decoded::Run(run, next) => self.give(
-                w,
-                Stand {
-                    cursor: next,
-                    current: Current::At(run),
-                    displacement: 0,
-                },
-            ),
-            Decoded::Over => Turn::Stop(Reader {
-                cluster: self.cluster,
-                cursor: list.len(),
-                lcn: self.lcn,
-                current: kept,
-                displacement: self.displacement,
-                place: self.place,
-                size: self.size,
-            }),
-            Decoded::Refused(x) => Turn::Refused(x),
-        }
+        Ok(Reader {
+            stand,
+            place,
+            ..self
+        })
     }
 
-    fn turn(self, list: &[u8], w: u64) -> Turn
-        requires { (0 < self.cluster) × (current_sound (shown_current self.current) self.displacement ≡ true) }
-        ensures { (shown_turn result ≡ turn (run_list self.cluster list.now) w (seen self).reader) × SameCluster self.cluster result }
+    /// Where a seek counts from.
+    #[tactic(auto, unfolding(format::specs::Reader::base))]
+    fn base(self, from: Whence) -> u64
+        ensures { result ≡ base self.place self.size (shown_from from) }
     {
-        if w == 0 {
-            return Turn::Stop(self);
+        match from {
+            Whence::Start => 0,
+            Whence::Place => self.place,
+            Whence::End => self.size,
         }
-        if self.size <= self.place {
-            return Turn::Stop(self);
-        }
-        let k = self.current;
-        if 0 < left_of(k, self.displacement) {
-            return self.give(w, self.stand());
-        }
-        self.fetch(list, w)
     }
 
-    // The spans of a sound reader, one by one into the store.
-    fn fill(self, list: &[u8], w: u64, store: &mut [u64]) -> Outcome
+    /// The reader at so many bytes from there.
+    ///
+    /// Refused is, in this order: `Unsound`, a cluster size that isn't a power of two from 512 to 2,097,152, a cursor
+    /// past the list, a displacement over the current run's size (or not 0 without a run), or a current run on the disk
+    /// that ends past 2^64 - 1; `Target`, a place below 0 or over 2^64 - 1; what a run on the way is refused with.
+    #[tactic(auto, unfolding(format::specs::Calls::seeking, format::specs::Reader::seek, format::specs::Reader::target, format::specs::Pick::pick))]
+    pub fn seek(self, list: &[u8], from: Whence, by: i128) -> Result<Reader, Refusal>
+        ensures { shown_sought result ≡ seeking list.now (seen self) (shown_from from) by }
+    {
+        let cluster = self.sound_in(list.len())?;
+        let place = types::sum(self.base(from), by).ok_or(Refusal::Target)?;
+        self.seek_to(list, cluster, place)
+    }
+
+    /// A span of the run where a stand is: the least of what is wanted, what is left of the run and the data left.
+    #[tactic(auto, unfolding(format::specs::Reader::give), using(crate::proofs::Laws::here_sound))]
+    fn give(self, wanted: u64, stand: Stand) -> (Span, Reader)
+        requires { (self.place ≤ self.size) × (current_sound (shown_current stand.current) stand.displacement ≡ true) }
+        ensures gives { shown_turn (Ok (Some result.0, result.1)) ≡ give wanted (seen self).reader (shown_stand stand) }
+        ensures same { result.1.cluster ≡ self.cluster }
+    {
+        let length = wanted.min(stand.left().min(self.size - self.place));
+        let place = stand.here();
+        let displacement = stand.displacement + length;
+        let reader = Reader {
+            stand: Stand {
+                displacement,
+                ..stand
+            },
+            place: self.place + length,
+            ..self
+        };
+        (Span { place, length }, reader)
+    }
+
+    /// A span of the next run, or where the list is over none, with the cursor at its end.
+    #[tactic(auto, using(crate::proofs::Laws::entered_sound), unfolding(format::specs::Reader::fetch))]
+    fn fetch(self, list: &[u8], wanted: u64) -> Result<(Option<Span>, Reader), Refusal>
+        requires { self.place ≤ self.size }
+        ensures turns { let next = step self.cluster list.now self.stand.cursor.at self.stand.cursor.lcn in
+            shown_turn result ≡ fetch (run_list self.cluster list.now) wanted (seen self).reader next }
+        ensures same { IfOk result (λ t. t.1.cluster ≡ self.cluster) }
+    {
+        let cursor = self.stand.cursor;
+        let Some((run, next)) = cursor.decode(list, self.cluster)? else {
+            let cursor = Cursor {
+                at: list.len(),
+                ..cursor
+            };
+            let stand = Stand {
+                cursor,
+                ..self.stand
+            };
+            return Ok((None, Reader { stand, ..self }));
+        };
+        let (span, reader) = self.give(wanted, Stand::entered(run, next));
+        Ok((Some(span), reader))
+    }
+
+    /// The next span of a read and the reader behind it; none where the read stops.
+    #[tactic(auto, unfolding(format::specs::Reader::turn, format::specs::Pick::pick))]
+    fn turn(self, list: &[u8], wanted: u64) -> Result<(Option<Span>, Reader), Refusal>
+        requires { current_sound (shown_current self.stand.current) self.stand.displacement ≡ true }
+        ensures turns { shown_turn result ≡ turn (run_list self.cluster list.now) wanted (seen self).reader }
+        ensures same { IfOk result (λ t. t.1.cluster ≡ self.cluster) }
+    {
+        if wanted == 0 || self.place >= self.size {
+            return Ok((None, self));
+        }
+        if self.stand.left() == 0 {
+            return self.fetch(list, wanted);
+        }
+        let (span, reader) = self.give(wanted, self.stand);
+        Ok((Some(span), reader))
+    }
+
+    /// What a read gave that left the reader here.
+    fn after(self, spans: usize, bytes: u64) -> Reading
+        ensures { shown_reading result ≡ record { spans = spans; bytes = bytes; reader = seen self } }
+    {
+        Reading {
+            spans,
+            bytes,
+            reader: self,
+        }
+    }
+
+    /// The spans of a sound reader, one by one into the store. They are counted, since each way out answers their
+    /// number.
+    fn fill(self, list: &[u8], wanted: u64, store: &mut [u64]) -> Result<Reading, Refusal>
         requires { sound_in (length list.now) (seen self) ≡ true }
-        ensures { (shown_outcome result ≡ counted self.cluster (read (run_list self.cluster list.now) (length store.old / 3) w (seen self).reader)) × (store.new ≡ stored store.old (read (run_list self.cluster list.now) (length store.old / 3) w (seen self).reader)) }
+        ensures { let x = read (run_list self.cluster list.now) (length store.old / 3) wanted (seen self).reader in
+            (shown_outcome result ≡ counted self.cluster x) × (store.new ≡ stored store.old x) }
     {
+        let mut reader = self;
+        let mut left = wanted;
         let room = store.len() / 3;
-        let mut r = self;
-        let mut k: usize = 0;
-        let mut left = w;
-        while k < room {
-            match r.turn(list, left) {
-                Turn::Give(x, to) => {
-                    let n = x.length;
-                    put_span(store, 3 * k, x);
-                    left = left - n;
-                    k = k + 1;
-                    r = to;
-                }
-                Turn::Stop(to) => {
-                    return answered(k, w - left, to);
-                }
-                Turn::Refused(x) => {
-                    if k == 0 {
-                        return Outcome::Refused(x);
-                    }
-                    return answered(k, w - left, r);
-                }
-            }
+        for spans in 0..room {
+            let (span, behind) = match reader.turn(list, left) {
+                Ok(turn) => turn,
+                Err(why) if spans == 0 => return Err(why),
+                Err(_) => return Ok(reader.after(spans, wanted - left)),
+            };
+            let Some(span) = span else {
+                return Ok(behind.after(spans, wanted - left));
+            };
+            span.put(store, 3 * spans);
+            left -= span.length;
+            reader = behind;
         }
-        answered(k, w - left, r)
+        Ok(reader.after(room, wanted - left))
     }
 
-    // w bytes' spans, three words each: 21, then runs.
-    pub fn read(self, list: &[u8], w: u64, store: &mut [u64]) -> Outcome
-        ensures { (shown_outcome result ≡ counted self.cluster (reading list.now (seen self) w store.old)) × (store.new ≡ stored store.old (reading list.now (seen self) w store.old)) }
+    /// The spans of so many bytes from the reader's place on, into a store, three words each: position (0 in a hole),
+    /// length, kind (1 on the disk, 0 in a hole). A read ends with what is wanted, the store, the data, the list, or
+    /// in front of a refused run. Words past the spans keep their values.
+    ///
+    /// Refused is `Unsound`, as by [`Reader::seek`]; then what a run is refused with before there is a span. The store
+    /// is then as it was.
+    #[tactic(auto, unfolding(format::specs::Calls::reading, format::specs::Pick::pick))]
+    pub fn read(self, list: &[u8], wanted: u64, store: &mut [u64]) -> Result<Reading, Refusal>
+        ensures answer { shown_outcome result ≡ counted self.cluster (reading list.now (seen self) wanted store.old) }
+        ensures store { store.new ≡ stored store.old (reading list.now (seen self) wanted store.old) }
     {
-        if !self.is_sound_in(list.len()) {
-            return Outcome::Refused(Refusal::Unsound);
-        }
-        self.fill(list, w, store)
+        self.sound_in(list.len())?;
+        self.fill(list, wanted, store)
     }
 
-    // Run place plus displacement, or none: 21 without the cursor.
-    pub fn data_position(self) -> Position
+    /// The disk position of the reader's place in its current run, or none in a hole or without a run. Refused is
+    /// `Unsound`, as by [`Reader::seek`], but for the cursor, which isn't judged.
+    #[tactic(auto, using(crate::proofs::Laws::on_disk, crate::proofs::Laws::in_hole), unfolding(format::specs::Calls::standing, format::specs::Pick::pick))]
+    pub fn data_position(self) -> Result<Option<u64>, Refusal>
         ensures { shown_position result ≡ standing (seen self) }
     {
-        if !self.is_sound() {
-            return Position::Refused(Refusal::Unsound);
-        }
-        let k = self.current;
-        match here(k, self.displacement) {
-            Place::Disk(p) => Position::At(p),
-            Place::Hole => Position::Nowhere,
+        self.sound()?;
+        match self.stand.here() {
+            Place::Disk(position) => Ok(Some(position)),
+            Place::Hole => Ok(None),
         }
     }
 }

@@ -1,114 +1,89 @@
-// Update sequence repair of a lent record, in place.
+//! Repair of a record's update sequence, where the record lies.
 #![tactic(auto)]
 
 ghost use Rattle.std.specs.Prelude.{◌≡◌, ◌+◌, ◌*◌, ◌≤◌, length};
 ghost use Rattle.format.specs.Number.{unsigned};
-ghost use Rattle.format.specs.Record.{repair, sectors, mend, length_fits, reaches_past};
-ghost use Rattle.record.specs.Shown.{outcome, of_sector};
+ghost use Rattle.format.specs.Record.{repair};
+ghost use Rattle.record.specs.Shown.{outcome, sectors_from, sector_at};
 
 use refusal::Refusal;
 
-#[derive(Clone, Copy)]
-pub enum Repaired {
-    Done,
-    Refused(Refusal),
-}
+/// The least length of a record, in bytes.
+pub const MIN_RECORD: usize = 8;
 
-// One sector's end: mended, or the two bytes that were found.
-#[derive(Clone, Copy)]
-enum Mended {
-    Done,
-    Torn(u8, u8),
-}
+/// The greatest length of a record, in bytes.
+pub const MAX_RECORD: usize = 4096;
 
-pub const MIN_RECORD: u64 = 8;
-
-pub const MAX_RECORD: u64 = 4096;
-
-fn length_fits(n: usize) -> bool
-    ensures { result ≡ length_fits n }
-{
-    types::in_range(MIN_RECORD, MAX_RECORD, n as u64)
-}
-
-fn reaches_past(len: usize, offset: usize, count: usize) -> bool
-    requires { (offset ≤ 65535) × (count ≤ 65535) }
-    ensures { result ≡ reaches_past len offset count }
-{
-    if len < offset + 2 * count {
-        return true;
-    }
-    if count == 0 {
-        return false;
-    }
-    len < 512 * (count - 1)
-}
-
-// The end of sector k, against the sequence number.
-fn mend_sector(lent: &mut [u8], offset: usize, lo: u8, hi: u8, k: usize) -> Mended
-    requires { (offset + 4 + 2 * k ≤ length lent.old) × (512 + 512 * k ≤ length lent.old) }
-    ensures { of_sector result lent.new ≡ mend offset lo hi k lent.old lent.old }
-{
-    let end = 510 + 512 * k;
-    let a = lent[end];
-    let b = lent[end + 1];
-    if a != lo {
-        return Mended::Torn(a, b);
-    }
-    if b != hi {
-        return Mended::Torn(a, b);
-    }
-    let entry = offset + 2 + 2 * k;
-    let x = lent[entry];
-    let y = lent[entry + 1];
-    lent[end] = x;
-    lent[end + 1] = y;
-    Mended::Done
-}
-
-fn mend_all(lent: &mut [u8], offset: usize, lo: u8, hi: u8, n: usize) -> Repaired
-    requires { (offset + 2 + 2 * n ≤ length lent.old) × (512 * n ≤ length lent.old) }
-    ensures { outcome result lent.new ≡ sectors n offset lo hi 0 lent.old lent.old }
-{
-    let mut k: usize = 0;
-    while k < n {
-        match mend_sector(lent, offset, lo, hi, k) {
-            Mended::Done => {}
-            Mended::Torn(a, b) => return Repaired::Refused(Refusal::Torn(k, a, b)),
-        }
-        k = k + 1;
-    }
-    Repaired::Done
-}
-
-// Repairs the record where it lies.
-pub fn repair(lent: &mut [u8]) -> Repaired
+/// Repairs a record: each sector must end in the sequence number, and gets its two bytes back from its entry in the
+/// array behind the number.
+///
+/// Refused is, in this order: `RecordLength`, fewer than 8 or more than 4,096 bytes; `SequenceOffset`, a number that
+/// isn't inside the record; `SequenceCount`, a count of 0; `SequenceArray`, a count whose entries or sectors reach past
+/// the record; `Torn`, the first sector that ends in other bytes. Sectors before a torn one stay repaired; a record
+/// that is refused for anything else is left as it was.
+#[tactic(auto, using(format::proofs::Record::reaches_not), unfolding(format::specs::Record::repair, format::specs::Record::length_fits, format::specs::Record::reaches_past, format::specs::Number::between, format::specs::Pick::pick))]
+pub fn repair(lent: &mut [u8]) -> Result<(), Refusal>
     ensures { outcome result lent.new ≡ repair lent.old }
 {
     let len = lent.len();
-    if !length_fits(len) {
-        return Repaired::Refused(Refusal::RecordLength(len));
+    if !(MIN_RECORD..=MAX_RECORD).contains(&len) {
+        return Err(Refusal::RecordLength { len });
     }
-    let offset = word_at(lent, 4);
+    let offset = usize::from(u16_at(lent, 4));
     if len < offset + 2 {
-        return Repaired::Refused(Refusal::SequenceOffset(offset));
+        return Err(Refusal::SequenceOffset { offset });
     }
-    let count = word_at(lent, 6);
+    let count = usize::from(u16_at(lent, 6));
     if count == 0 {
-        return Repaired::Refused(Refusal::SequenceCount);
+        return Err(Refusal::SequenceCount);
     }
-    if reaches_past(len, offset, count) {
-        return Repaired::Refused(Refusal::SequenceArray(count));
+    if len < offset + 2 * count || len < 512 * (count - 1) {
+        return Err(Refusal::SequenceArray { count });
     }
-    let lo = lent[offset];
-    let hi = lent[offset + 1];
-    mend_all(lent, offset, lo, hi, count - 1)
+    let number = [lent[offset], lent[offset + 1]];
+    mend_all(lent, offset, number, count - 1)
 }
 
-// Two bytes, little-endian.
-fn word_at(lent: &[u8], at: usize) -> usize
-    requires { at + 2 ≤ length lent.now }
-    ensures { (result ≡ unsigned lent.now at 2) × (result ≤ 65535) }
+/// Mends the ends of so many sectors, up to a torn one.
+#[tactic(auto, using(crate::proofs::Sectors::sector_mended, crate::proofs::Sectors::sector_torn, crate::proofs::Sectors::sectors_over))]
+fn mend_all(lent: &mut [u8], offset: usize, number: [u8; 2], sectors: usize) -> Result<(), Refusal>
+    requires entries { offset + 2 + 2 * sectors ≤ length lent.old }
+    requires ends { 512 * sectors ≤ length lent.old }
+    ensures { outcome result lent.new ≡ sectors_from sectors offset number 0 lent.old lent.old }
 {
-    types::wide(lent[at]) as usize + 256 * (types::wide(lent[at + 1]) as usize)
+    for sector in 0..sectors {
+        mend(lent, offset, number, sector)?;
+    }
+    Ok(())
+}
+
+/// Mends the end of one sector.
+#[tactic(auto, using(crate::proofs::Sectors::copied), unfolding(format::specs::Record::mend, format::specs::Record::ended, format::specs::Record::mismatch, format::specs::Pick::pick))]
+fn mend(lent: &mut [u8], offset: usize, number: [u8; 2], sector: usize) -> Result<(), Refusal>
+    requires entry { offset + 4 + 2 * sector ≤ length lent.old }
+    requires end { 512 + 512 * sector ≤ length lent.old }
+    ensures long { length lent.new ≡ length lent.old }
+    ensures mended { outcome result lent.new ≡ sector_at offset number sector lent.old }
+{
+    let end = 510 + 512 * sector;
+    let (first, second) = (lent[end], lent[end + 1]);
+    if [first, second] != number {
+        return Err(Refusal::Torn {
+            sector,
+            first,
+            second,
+        });
+    }
+    let entry = offset + 2 + 2 * sector;
+    lent.copy_within(entry..entry + 2, end);
+    Ok(())
+}
+
+/// The two bytes at a place, little-endian.
+#[tactic(auto, using(format::proofs::Numbers::unsigned_two))]
+fn u16_at(bytes: &[u8], at: usize) -> u16
+    requires { at + 2 ≤ length bytes.now }
+    ensures { result ≡ unsigned bytes.now at 2 }
+{
+    u16::from_le_bytes([bytes[at], bytes[at + 1]])
 }

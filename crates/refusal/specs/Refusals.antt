@@ -1,10 +1,7 @@
--- Each refusal's number and values: here the numbers of the scope of work stand. No two refusals are shown alike.
-use Rattle.std.specs.Prelude.{ℕ, ◌≡◌, refl, List, [], ◌∷◌, get_or, eqb, ℤ, pos, nat_abs}
-use Rattle.std.proofs.Common.{sym, ap, ◌∙◌}
+-- Each refusal's number and values, in the order in which they are told. No two refusals are shown alike.
+use Rattle.std.specs.Fmt.{decimal, signed_decimal}
+use Rattle.std.specs.Prelude.{◌<◌, ◌^◌, negsuc, Some, None, slice_get, codes, ◌++◌, ℕ, ◌≡◌, refl, List, [], ◌∷◌, get_or, eqb, ℤ, pos, nat_abs, Option}
 use Rattle.format.specs.Pick.{pick}
-use Rattle.types.specs.Shown.{to_ℤ, delta_back, delta_restored}
-use Rattle.refusal.specs.declared.Values.{Values}
-use Rattle.refusal.specs.declared.Values.TheVariants as V0
 use Rattle.refusal.specs.declared.Refusal.{Refusal}
 use Rattle.refusal.specs.declared.Refusal.TheVariants.{Short, Mark, PerCluster, SectorSize, ClusterSize, MftLcn, RecordInfo, RecordLength, SequenceOffset, SequenceCount, SequenceArray, Torn, Nibble, Cut, NoClusters, RunSize, RunLcn, RunPlace, RunEnd, Target, Unsound, ListLength}
 
@@ -112,25 +109,58 @@ refusal_restored Target = refl
 refusal_restored Unsound = refl
 refusal_restored ListLength = refl
 
--- the values as the code hands them out
-abbrev pub shown_values : Values → List ℤ
-shown_values V0.None = []
-shown_values (V0.One a) = to_ℤ a ∷ []
-shown_values (V0.Two a b) = to_ℤ a ∷ to_ℤ b ∷ []
-shown_values (V0.Three a b d) = to_ℤ a ∷ to_ℤ b ∷ to_ℤ d ∷ []
+-- The values as the code hands them out, none behind the last.
+abbrev pub three : List ℤ → List (Option ℤ)
+three vs = slice_get vs 0 ∷ slice_get vs 1 ∷ slice_get vs 2 ∷ []
 
-pub values_back : List ℤ → Values
-values_back [] = V0.None
-values_back (a ∷ []) = V0.One (delta_back a)
-values_back (a ∷ b ∷ []) = V0.Two (delta_back a) (delta_back b)
-values_back (a ∷ b ∷ d ∷ rest) = V0.Three (delta_back a) (delta_back b) (delta_back d)
+-- Each of them fits a word of 64 bits, a negative one in two's complement.
+abbrev pub FitsWord : ℤ → Type 0
+FitsWord (pos n) = n < 2 ^ 64
+FitsWord (negsuc n) = n < 2 ^ 63
 
-values_restored : (x : Values) → values_back (shown_values x) ≡ x
-unfolding values_back
-values_restored V0.None = refl
-values_restored (V0.One a) = rw (delta_restored a)
-values_restored (V0.Two a b) = rw (delta_restored a, delta_restored b)
-values_restored (V0.Three a b d) = rw (delta_restored a, delta_restored b, delta_restored d)
+abbrev pub WordsFit : List (Option ℤ) → Type 0
+WordsFit [] = Unit {0}
+WordsFit (None ∷ vs) = WordsFit vs
+WordsFit (Some v ∷ vs) = FitsWord v × WordsFit vs
 
-pub values_injective : (x y : Values) → shown_values x ≡ shown_values y → x ≡ y
-values_injective x y e = sym (values_restored x) ∙ ap values_back e ∙ values_restored y
+-- No value is lost there.
+abbrev pub given : List (Option ℤ) → List ℤ
+given [] = []
+given (None ∷ vs) = []
+given (Some v ∷ vs) = v ∷ given vs
+
+pub none_lost : (x : Refusal) → given (three (values x)) ≡ values x
+none_lost Short = refl
+none_lost (Mark a b) = refl
+none_lost (PerCluster b) = refl
+none_lost (SectorSize size) = refl
+none_lost (ClusterSize size) = refl
+none_lost MftLcn = refl
+none_lost (RecordInfo info cluster) = refl
+none_lost (RecordLength len) = refl
+none_lost (SequenceOffset offset) = refl
+none_lost SequenceCount = refl
+none_lost (SequenceArray count) = refl
+none_lost (Torn k a b) = refl
+none_lost (Nibble at) = refl
+none_lost (Cut at) = refl
+none_lost (NoClusters at) = refl
+none_lost (RunSize at) = refl
+none_lost (RunLcn at lcn) = refl
+none_lost (RunPlace at) = refl
+none_lost (RunEnd at) = refl
+none_lost Target = refl
+none_lost Unsound = refl
+none_lost ListLength = refl
+
+-- The refusal as it is written: `refused 12: 1, 7, 9`.
+abbrev pub further : List ℤ → List ℕ
+further [] = []
+further (v ∷ vs) = codes ", " ++ signed_decimal v ++ further vs
+
+abbrev pub behind : List ℤ → List ℕ
+behind [] = []
+behind (v ∷ vs) = codes ": " ++ signed_decimal v ++ further vs
+
+abbrev pub told : Refusal → List ℕ
+told x = codes "refused " ++ decimal (number x) ++ behind (values x)

@@ -1,97 +1,86 @@
-// The words and bytes of an entry's body. A place is the index of a byte, a multiple of 8; LOST is the place behind what isn't there or
-// differs, and what starts at LOST ends there.
-ghost use Rattle.std.specs.Prelude.{◌≡◌, ◌≤◌, length, take};
+//! An entry's body, taken from the front. None says that what is asked for isn't there, or that it differs.
 
-pub const LOST: usize = 0xffff_ffff_ffff_ffff;
+/// How many bytes a run list has at most.
+const LIST: usize = 64;
 
-pub fn word(body: &[u8], at: usize) -> u64 {
-    types::number_at(body, at, 8)
+/// What is left of a body: words of eight bytes, low byte first, and pieces of bytes.
+#[derive(Clone, Copy, Debug)]
+pub struct Body<'a> {
+    rest: &'a [u8],
 }
 
-// The place n bytes further on.
-pub fn on(body: &[u8], at: usize, n: usize) -> usize {
-    if body.len() < n {
-        return LOST;
+impl<'a> Body<'a> {
+    pub fn new(bytes: &'a [u8]) -> Self {
+        Body { rest: bytes }
     }
-    if body.len() - n < at {
-        return LOST;
-    }
-    at + n
-}
 
-// n, or all of s where it has fewer.
-pub fn most(n: usize, s: &[u8]) -> usize
-    ensures { (result ≤ length s.now) × (result ≡ length (take result s.now)) }
-{
-    if n <= s.len() { n } else { s.len() }
-}
-
-// The place behind the first n of `words`, where they stand in the body.
-pub fn same(body: &[u8], at: usize, words: &[u64], n: usize) -> usize {
-    if words.len() < n {
-        return LOST;
+    pub fn is_over(&self) -> bool {
+        self.rest.is_empty()
     }
-    let mut p = at;
-    for i in 0..n {
-        if word(body, p) != words[i] {
-            return LOST;
+
+    fn take(&mut self, count: usize) -> Option<&'a [u8]> {
+        let (taken, rest) = self.rest.split_at_checked(count)?;
+        self.rest = rest;
+        Some(taken)
+    }
+
+    pub fn word(&mut self) -> Option<u64> {
+        let (word, rest) = self.rest.split_first_chunk()?;
+        self.rest = rest;
+        Some(u64::from_le_bytes(*word))
+    }
+
+    pub fn size(&mut self) -> Option<usize> {
+        usize::try_from(self.word()?).ok()
+    }
+
+    /// A piece of bytes, its length before it and padding behind it up to a whole word.
+    pub fn bytes(&mut self) -> Option<&'a [u8]> {
+        let length = self.size()?;
+        let bytes = self.take(length)?;
+        self.take((8 - length % 8) % 8)?;
+        Some(bytes)
+    }
+
+    pub fn list(&mut self) -> Option<&'a [u8]> {
+        let list = self.bytes()?;
+        (list.len() <= LIST).then_some(list)
+    }
+
+    /// Bytes that are zeros but for some pieces, each with its place before it: the front of `room`, which holds zeros
+    /// before.
+    pub fn sparse<'b>(&mut self, room: &'b mut [u8]) -> Option<&'b mut [u8]> {
+        let length = self.size()?;
+        for _ in 0..self.word()? {
+            let place = self.size()?;
+            let piece = self.bytes()?;
+            room.get_mut(place..)?
+                .get_mut(..piece.len())?
+                .copy_from_slice(piece);
         }
-        p = on(body, p, 8);
+        room.get_mut(..length)
     }
-    p
-}
 
-// The same for an answer: a number, and n words.
-pub fn answer(body: &[u8], at: usize, number: u64, words: &[u64], n: usize) -> usize {
-    if word(body, at) != number {
-        return LOST;
-    }
-    same(body, on(body, at, 8), words, n)
-}
-
-fn byte(body: &[u8], i: usize) -> u8 {
-    if i < body.len() { body[i] } else { 0 }
-}
-
-fn put(out: &mut [u8], i: usize, b: u8) {
-    if i < out.len() {
-        out[i] = b;
-    }
-}
-
-// Copies a piece of bytes, its length before it and zeros behind it up to a whole word.
-pub fn bytes(body: &[u8], at: usize, out: &mut [u8], to: usize) -> usize {
-    let n = word(body, at) as usize;
-    if on(out, to, n) == LOST {
-        return LOST;
-    }
-    let first = on(body, at, 8);
-    for i in 0..n {
-        put(out, to.wrapping_add(i), byte(body, first.wrapping_add(i)));
-    }
-    on(body, on(body, first, n), (8 - n % 8) % 8)
-}
-
-// Bytes that are zeros but for some pieces; `out` holds zeros before.
-pub fn sparse(body: &[u8], at: usize, out: &mut [u8]) -> usize {
-    if (out.len() as u64) < word(body, at) {
-        return LOST;
-    }
-    let pieces = word(body, on(body, at, 8));
-    let mut p = on(body, at, 16);
-    for _ in 0..pieces {
-        if p == LOST {
-            return LOST;
+    /// Goes past `words`, where they come next.
+    pub fn expect(&mut self, words: &[u64]) -> Option<()> {
+        for word in words {
+            if self.word()? != *word {
+                return None;
+            }
         }
-        p = bytes(body, on(body, p, 8), out, word(body, p) as usize);
+        Some(())
     }
-    p
+
+    /// The same for an answer: a number, and words.
+    pub fn answer(&mut self, number: u64, words: &[u64]) -> Option<()> {
+        self.expect(&[number])?;
+        self.expect(words)
+    }
 }
 
-// Alters the last word.
+/// Alters the last word.
 pub fn alter(body: &mut [u8]) {
-    let n = body.len();
-    if 8 <= n {
-        body[n - 8] = if body[n - 8] == 0 { 1 } else { 0 };
+    if let Some(word) = body.last_chunk_mut::<8>() {
+        word[0] = u8::from(word[0] == 0);
     }
 }

@@ -1,121 +1,108 @@
-// A history: an opening, then seeks and reads, the reader going from call to call.
-use crate::{body, joined};
-use body::{LOST, answer, bytes, most, on, same, word};
+//! A history: an opening, then seeks and reads, the reader going from call to call.
+use crate::body::Body;
+use crate::spans;
 
-const OPEN: u64 = 0;
-
-const SEEK: u64 = 1;
-
-const SEEK_SIGNED: u64 = 2;
-
-const READ: u64 = 3;
-// what a call with too short a store answers
+/// What a call with too short a store answers: a number, as C has it.
 const SHORT: u64 = 255;
 
-pub fn history(entry: &[u8]) -> usize {
-    let mut list = [0u8; 64];
-    let p = bytes(entry, 16, &mut list, 0);
-    let n = most(word(entry, 16) as usize, &list);
-    let mut reader = [0u64; 16];
-    calls(entry, p, &list[..n], &mut reader)
+/// A call as an entry has it, where it is three numbers. `Unknown` is none that the library has.
+#[derive(Clone, Copy, Debug, PartialEq, Eq)]
+enum Call {
+    Open,
+    Seek { from: u64, by: u64 },
+    SeekSigned { from: u64, by: i64 },
+    Read { bytes: u64, room: usize },
+    Unknown,
 }
 
-fn calls(entry: &[u8], at: usize, list: &[u8], reader: &mut [u64]) -> usize {
-    let count = word(entry, at);
-    if count == 0 {
-        return LOST;
-    }
-    let mut p = on(entry, at, 8);
-    for _ in 0..count {
-        if p == LOST {
-            return LOST;
+impl From<[u64; 3]> for Call {
+    fn from([kind, first, second]: [u64; 3]) -> Call {
+        match kind {
+            0 => Call::Open,
+            1 => Call::Seek {
+                from: first,
+                by: second,
+            },
+            2 => Call::SeekSigned {
+                from: first,
+                by: second.cast_signed(),
+            },
+            // a room that is no usize here is over the store's length as well
+            3 => Call::Read {
+                bytes: first,
+                room: second as usize,
+            },
+            _ => Call::Unknown,
         }
-        let answered = call(entry, p, list, reader);
-        p = standing(entry, answered, reader);
     }
-    p
 }
 
-// What a call left: the reader and the data position.
-fn standing(entry: &[u8], at: usize, reader: &[u64]) -> usize {
-    let mut out = [0u64; 8];
-    if capi::archthimble_data_position(reader, &mut out) != 0 {
-        return LOST;
-    }
-    same(entry, same(entry, at, reader, 9), &out, 2)
+#[derive(Drop)]
+struct History<'a> {
+    cluster: u64,
+    size: u64,
+    list: &'a [u8],
+    reader: [u64; 16],
 }
 
-// One call and its answer: the refusal and the spans.
-fn call(entry: &[u8], at: usize, list: &[u8], reader: &mut [u64]) -> usize {
-    let mut store = [0u64; 96];
-    let mut out = [0u64; 8];
-    let number = make(entry, at, list, reader, &mut store, &mut out);
-    shown(
-        entry,
-        on(entry, at, 24),
-        number,
-        word(entry, at),
-        &store,
-        &out,
-    )
+impl History<'_> {
+    /// Makes a call, and gives the number that it answers.
+    fn make(&mut self, call: Call, store: &mut [u64], out: &mut [u64]) -> u64 {
+        let reader = &mut self.reader;
+        match call {
+            Call::Open => capi::archthimble_open(self.list, self.cluster, self.size, reader, out),
+            Call::Seek { from, by } => capi::archthimble_seek(self.list, reader, from, by, out),
+            Call::SeekSigned { from, by } => {
+                capi::archthimble_seek_signed(self.list, reader, from, by, out)
+            }
+            Call::Read { bytes, room } => match store.get_mut(..room) {
+                Some(store) => capi::archthimble_read(self.list, reader, bytes, store, out),
+                None => SHORT,
+            },
+            Call::Unknown => SHORT,
+        }
+    }
+
+    /// A call and its answer: the refusal and the spans. An accepted call has no words of its own here: what a read
+    /// counts is told by its spans, and no other call has any.
+    fn call(&mut self, body: &mut Body<'_>) -> Option<()> {
+        let mut store = [0; 96];
+        let mut out = [0; 8];
+        let call = Call::from([body.word()?, body.word()?, body.word()?]);
+        let number = self.make(call, &mut store, &mut out);
+        let [first, second, ..] = out;
+        if number != 0 {
+            return body.answer(number, &[first, second, 0]);
+        }
+        body.answer(0, &[0, 0])?;
+        spans::spans(body, &store, first, second)
+    }
+
+    /// What a call left: the reader and the data position.
+    fn standing(&self, body: &mut Body<'_>) -> Option<()> {
+        let mut out = [0; 8];
+        if capi::archthimble_data_position(&self.reader, &mut out) != 0 {
+            return None;
+        }
+        body.expect(&self.reader[..9])?;
+        body.expect(&out[..2])
+    }
 }
 
-// An accepted call has no words of its own here: what a read counts is told by its spans, and no other call has any.
-fn shown(entry: &[u8], at: usize, number: u64, what: u64, store: &[u64], out: &[u64; 8]) -> usize {
-    if number != 0 {
-        return same(entry, answer(entry, at, number, out, 2), &[0], 1);
+pub fn calls(body: &mut Body<'_>) -> Option<()> {
+    let mut history = History {
+        cluster: body.word()?,
+        size: body.word()?,
+        list: body.list()?,
+        reader: [0; 16],
+    };
+    let count = body.word()?;
+    if count == 0 {
+        return None;
     }
-    if what <= SEEK_SIGNED {
-        return same(entry, at, &[0, 0, 0, 0], 4);
+    for _ in 0..count {
+        history.call(body)?;
+        history.standing(body)?;
     }
-    joined::spans(entry, same(entry, at, &[0, 0, 0], 3), store, out[0], out[1])
-}
-
-fn make(
-    entry: &[u8],
-    at: usize,
-    list: &[u8],
-    reader: &mut [u64],
-    store: &mut [u64],
-    out: &mut [u64],
-) -> u64 {
-    let what = word(entry, at);
-    let a = word(entry, on(entry, at, 8));
-    let b = word(entry, on(entry, at, 16));
-    if what == OPEN {
-        return capi::archthimble_open(list, word(entry, 0), word(entry, 8), reader, out);
-    }
-    if what == SEEK {
-        return capi::archthimble_seek(list, reader, a, b, out);
-    }
-    if what == SEEK_SIGNED {
-        return capi::archthimble_seek_signed(list, reader, a, signed(b), out);
-    }
-    if what == READ {
-        return read(list, reader, a, store, b as usize, out);
-    }
-    SHORT
-}
-
-// A read with a store of so many words.
-fn read(
-    list: &[u8],
-    reader: &mut [u64],
-    w: u64,
-    store: &mut [u64],
-    room: usize,
-    out: &mut [u64],
-) -> u64 {
-    if room <= store.len() {
-        return capi::archthimble_read(list, reader, w, &mut store[..room], out);
-    }
-    SHORT
-}
-
-// A word as a signed number, in two's complement.
-fn signed(n: u64) -> i64 {
-    if n < 0x8000_0000_0000_0000 {
-        return n as i64;
-    }
-    !((0xffff_ffff_ffff_ffff - n) as i64)
+    Some(())
 }

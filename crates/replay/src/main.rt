@@ -1,184 +1,79 @@
-// Replays the fixed list: answers that crate ntfs 0.4.0 gave, entry by entry, against the library through the calls that
-// C has. Each entry is tried once more with its last word altered and must then differ, so that a comparison that sees
-// nothing is seen.
+//! Replays the fixed list: answers that crate ntfs 0.4.0 gave, entry by entry, against the library through the calls
+//! that C has. Each entry is tried once more with its last word altered and must then differ, so that a comparison that
+//! sees nothing is seen.
 #![tactic(auto)]
 
 mod body;
 mod history;
-mod joined;
+mod kind;
+mod report;
 mod single;
+mod spans;
 
-ghost use Rattle.std.specs.Prelude.{◌≤◌, length};
-
-use body::{LOST, most, word};
+use report::Report;
 use std::fs::File;
 use std::io;
-use std::io::{Read, Write};
+use std::io::Read;
 
-// the bytes 'NTFS-0.4' as a word
-const MARK: u64 = 0x342e_302d_5346_544e;
-// Where counts start, a word a kind: entries that agree and that differ; then the same for altered ones.
-const AGREE: usize = 0;
+/// What the list begins with.
+const MARK: [u8; 8] = *b"NTFS-0.4";
 
-const DIFFER: usize = 8;
+/// How many bytes an entry's body has at most.
+const ROOM: usize = 2048;
 
-const ALTERED: usize = 16;
-
-fn say(rt: &impl Print, text: &[u8]) -> io::Result<()> {
-    io::writer(rt).write_all(text)
+fn word(file: &mut impl Read) -> Option<u64> {
+    let mut bytes = [0; 8];
+    file.read_exact(&mut bytes).ok()?;
+    Some(u64::from_le_bytes(bytes))
 }
 
-// Reads until the buffer is full, or nothing more can be read, and answers how many bytes came.
-fn read_full(file: &mut impl Read, buffer: &mut [u8]) -> usize
-    ensures { result ≤ length buffer.new }
-{
-    let mut n = 0;
-    for _ in 0..buffer.len() {
-        if n == buffer.len() {
-            return n;
-        }
-        match file.read(&mut buffer[n..]) {
-            Ok(0) => return n,
-            Ok(got) => n += got,
-            Err(_) => return n,
-        }
-    }
-    n
+/// How many entries the list has, where it is one.
+fn head(file: &mut impl Read) -> Option<u64> {
+    let mut mark = [0; MARK.len()];
+    file.read_exact(&mut mark).ok()?;
+    let count = word(file)?;
+    (mark == MARK).then_some(count)
 }
 
-fn number(rt: &impl Print, n: u64) -> io::Result<()> {
-    print!(rt; "{n}")
+/// The next entry's kind and body, where all of it is there and fits the room.
+fn entry<'a>(file: &mut impl Read, room: &'a mut [u8]) -> Option<(u64, &'a mut [u8])> {
+    let kind = word(file)?;
+    let length = word(file)?;
+    let body = room.get_mut(..usize::try_from(length).ok()?)?;
+    file.read_exact(body).ok()?;
+    Some((kind, body))
 }
 
-// The place behind the entry where it agrees, otherwise another.
-fn behind(kind: usize, entry: &[u8]) -> usize {
-    if kind == 1 {
-        return single::boot(entry);
-    }
-    if kind == 2 {
-        return single::repair(entry);
-    }
-    if kind == 3 {
-        return single::run(entry);
-    }
-    if kind == 4 {
-        return single::lookup(entry);
-    }
-    if kind == 5 {
-        return history::history(entry);
-    }
-    LOST
-}
-
-fn outcome(kind: usize, entry: &[u8]) -> usize {
-    if behind(kind, entry) == entry.len() {
-        AGREE
-    } else {
-        DIFFER
-    }
-}
-
-fn note(counts: &mut [u64], i: usize) {
-    if i < counts.len() {
-        counts[i] = counts[i].wrapping_add(1);
-    }
-}
-
-fn tried(kind: usize, entry: &mut [u8], counts: &mut [u64]) {
-    if 5 < kind {
-        note(counts, DIFFER);
-        return;
-    }
-    note(counts, outcome(kind, entry).wrapping_add(kind));
-    body::alter(entry);
-    let altered = outcome(kind, entry).wrapping_add(ALTERED);
-    note(counts, altered.wrapping_add(kind));
-}
-
-// The body of an entry, and whether all of it was there.
-fn taken(file: &mut impl Read, kind: usize, entry: &mut [u8], counts: &mut [u64]) -> bool {
-    if read_full(file, entry) != entry.len() {
-        return false;
-    }
-    tried(kind, entry, counts);
-    true
-}
-
-// One entry: its kind, its length, its body.
-fn next(file: &mut impl Read, room: &mut [u8], counts: &mut [u64]) -> bool {
-    let mut head = [0u8; 16];
-    if read_full(file, &mut head) != 16 {
-        return false;
-    }
-    let n = most(word(&head, 8) as usize, room);
-    if word(&head, 8) != n as u64 {
-        return false;
-    }
-    taken(file, word(&head, 0) as usize, &mut room[..n], counts)
-}
-
-fn entries(
-    rt: &impl Print,
-    file: &mut impl Read,
-    count: u64,
-    room: &mut [u8],
-    counts: &mut [u64],
-) -> io::Result<()> {
+fn entries(rt: &impl Print, file: &mut impl Read, count: u64) -> io::Result<Report> {
+    let mut report = Report::default();
+    let mut room = [0; ROOM];
     for _ in 0..count {
-        if !next(file, room, counts) {
-            say(rt, b"the list is cut short, or an entry is too long\n")?;
-            return Ok(());
-        }
+        let Some((kind, body)) = entry(file, &mut room) else {
+            println!(rt; "the list is cut short, or an entry is too long")?;
+            return Ok(report);
+        };
+        report.note(kind, body);
     }
-    if read_full(file, room) != 0 {
-        say(rt, b"there is more behind the last entry\n")?;
+    if file.read_exact(&mut [0]).is_ok() {
+        println!(rt; "there is more behind the last entry")?;
     }
-    Ok(())
+    Ok(report)
 }
 
-fn line(rt: &impl Print, name: &[u8], counts: &[u64; 32], kind: usize) -> io::Result<()> {
-    say(rt, name)?;
-    if kind < 8 {
-        number(rt, counts[AGREE + kind])?;
-        say(rt, b" as the Rust, ")?;
-        number(rt, counts[DIFFER + kind])?;
-        say(rt, b" not; altered, ")?;
-        number(rt, counts[ALTERED + DIFFER + kind])?;
-        say(rt, b" differ\n")?;
-    }
-    Ok(())
-}
-
-fn report(rt: &impl Print, counts: &[u64; 32]) -> io::Result<()> {
-    line(rt, b"boot sectors ", counts, 1)?;
-    line(rt, b"records      ", counts, 2)?;
-    line(rt, b"single runs  ", counts, 3)?;
-    line(rt, b"lookups      ", counts, 4)?;
-    line(rt, b"histories    ", counts, 5)?;
-    number(rt, counts[DIFFER])?;
-    say(rt, b" entries of no kind\n")
-}
-
-fn file(rt: &impl Print, mut file: impl Read + Drop) -> io::Result<()> {
-    let mut head = [0u8; 16];
-    if read_full(&mut file, &mut head) == 16 {
-        if word(&head, 0) == MARK {
-            let mut room = [0u8; 2048];
-            let mut counts = [0u64; 32];
-            entries(rt, &mut file, word(&head, 8), &mut room, &mut counts)?;
-            report(rt, &counts)?;
-            return Ok(());
-        }
-    }
-    say(rt, b"answers.bin is no list of answers\n")
+fn replay(rt: &impl Print, mut file: impl Read + Drop) -> io::Result<()> {
+    let Some(count) = head(&mut file) else {
+        return println!(rt; "answers.bin is no list of answers");
+    };
+    let report = entries(rt, &mut file, count)?;
+    print!(rt; "{report}")
 }
 
 fn main(rt: HostRuntime) -> io::Result<()> {
     match File::open(&rt, "answers.bin") {
-        Ok(answers) => file(&rt, answers),
-        Err(e) => {
+        Ok(file) => replay(&rt, file),
+        Err(error) => {
             // where standard error can't be written either, there is nobody to tell
-            let _ = eprintln!(rt; "answers.bin: {e}");
+            let _ = eprintln!(rt; "answers.bin: {error}");
             Ok(())
         }
     }

@@ -1,3 +1,3 @@
-mod Products
-mod Signs
-mod Digits
+pub mod Bounds
+pub mod Powers
+pub mod Signs

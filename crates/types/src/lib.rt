@@ -1,231 +1,189 @@
-// Numbers: out of bytes, as a word can hold them, an LCN plus a signed delta, an LCN's byte position.
+//! Numbers: out of bytes, as 64 bits can hold them, an LCN plus a signed delta, an LCN's byte position.
 #![tactic(auto)]
 
-ghost use Rattle.std.specs.Prelude.{◌≡◌, ◌+◌, ◌-◌, ◌*◌, ◌^◌, ◌≤◌, min, pos, ◌+ℤ◌};
-ghost use Rattle.format.specs.Number.{unsigned, twos, within, within_ℤ, power_of_two, power_between, cluster_sound, between};
-ghost use Rattle.types.specs.Shown.{shown_word, to_ℤ, eight_at_most};
+ghost use Rattle.std.specs.Prelude.{true, Some, None, ◌≡◌, ◌+◌, ◌*◌, ◌^◌, ◌≤◌, length, pos, ◌+ℤ◌, option_map};
+ghost use Rattle.format.specs.Number.{little, unsigned, twos, within, within_ℤ, between};
+ghost use Rattle.format.specs.Number.{power_of_two, power_between, cluster_sound};
+ghost use Rattle.format.specs.Pick.{pick};
+ghost use Rattle.types.specs.Shown.{eight_at_most};
 
-// A number from 0 to 2^64 - 1, or one outside.
-#[derive(Clone, Copy)]
-pub enum Word {
-    Is(u64),
-    Out,
-}
+use std::marker::Model;
 
-// A signed number as a direction and a size: `Up(n)` is n, `Down(n)` is -(n + 1), so that each number has one form.
-#[derive(Clone, Copy)]
-pub enum Delta {
-    Up(u64),
-    Down(u64),
-}
-
-// A logical cluster number.
-#[derive(Clone, Copy)]
+/// A logical cluster number.
+#[derive(Clone, Copy, Debug, PartialEq, Eq)]
 pub struct Lcn(pub u64);
 
-impl Delta {
-    pub fn of(d: i64) -> Delta
-        ensures { to_ℤ result ≡ d }
-    {
-        if d < 0 {
-            Delta::Down((-(d + 1)) as u64)
-        } else {
-            Delta::Up(d as u64)
-        }
-    }
-
-    pub fn of_byte(d: i8) -> Delta
-        ensures { to_ℤ result ≡ d }
-    {
-        Delta::of(d as i64)
-    }
-}
-
 impl Lcn {
-    // The LCN plus a signed delta.
-    pub fn plus(self, delta: i64) -> Word
-        ensures { shown_word result ≡ within_ℤ (pos self.0 +ℤ delta) }
+    /// The LCN plus a delta as a run list holds it, or none where that is below 0 or over 2^64 - 1.
+    #[tactic(auto, unfolding(format::specs::Number::within, format::specs::Pick::pick))]
+    pub fn plus(self, delta: i64) -> Option<Lcn>
+        ensures { option_map (λ to. to.0) result ≡ within_ℤ (pos self.0 +ℤ delta) }
     {
-        self.moved(Delta::of(delta))
+        self.0.checked_add_signed(delta).map(Lcn)
     }
 
-    pub fn moved(self, delta: Delta) -> Word
-        ensures { shown_word result ≡ within_ℤ (pos self.0 +ℤ to_ℤ delta) }
+    /// The same for a delta of any size.
+    pub fn moved(self, delta: i128) -> Option<Lcn>
+        ensures { option_map (λ to. to.0) result ≡ within_ℤ (pos self.0 +ℤ delta) }
     {
-        sum(self.0, delta)
+        sum(self.0, delta).map(Lcn)
     }
 
-    // The byte position of the LCN's first byte.
-    pub fn position(self, cluster: u64) -> Word
-        ensures { shown_word result ≡ within (self.0 * cluster) }
+    /// The byte position of the LCN's first byte, or none where it is over 2^64 - 1.
+    #[tactic(auto, unfolding(format::specs::Number::within, format::specs::Pick::pick))]
+    pub fn position(self, cluster: u64) -> Option<u64>
+        ensures { result ≡ within (self.0 * cluster) }
     {
-        times(self.0, cluster)
+        self.0.checked_mul(cluster)
     }
 }
 
-// A number plus a signed one.
-pub fn sum(base: u64, delta: Delta) -> Word
-    ensures { shown_word result ≡ within_ℤ (pos base +ℤ to_ℤ delta) }
+/// A number plus a signed one, or none where the sum is below 0 or over 2^64 - 1.
+#[tactic(auto, unfolding(format::specs::Number::within, format::specs::Pick::pick))]
+pub fn sum(base: u64, delta: i128) -> Option<u64>
+    ensures { result ≡ within_ℤ (pos base +ℤ delta) }
 {
-    match delta {
-        Delta::Up(n) => {
-            if n <= 0xffff_ffff_ffff_ffff - base {
-                Word::Is(base + n)
-            } else {
-                Word::Out
-            }
-        }
-        Delta::Down(n) => {
-            if n < base {
-                Word::Is(base - n - 1)
-            } else {
-                Word::Out
-            }
-        }
-    }
+    let sum = i128::from(base).checked_add(delta)?;
+    u64::try_from(sum).ok()
 }
 
-pub fn times(a: u64, b: u64) -> Word
-    ensures { shown_word result ≡ within (a * b) }
+/// A product, or none where it is over 2^64 - 1.
+#[tactic(auto, unfolding(format::specs::Number::within, format::specs::Pick::pick))]
+pub fn times(a: u64, b: u64) -> Option<u64>
+    ensures { result ≡ within (a * b) }
 {
-    if b == 0 {
-        return Word::Is(0);
+    a.checked_mul(b)
+}
+
+/// The little-endian number of the n bytes from a place on, eight at most; bytes past the end count as none.
+#[tactic(auto, unfolding(format::specs::Number::unsigned, format::specs::Pick::pick))]
+pub fn number_at(bytes: &[u8], from: usize, n: usize) -> u64
+    ensures { result ≡ unsigned bytes.now from (eight_at_most n) }
+{
+    let rest = bytes.get(from..).unwrap_or(&[]);
+    little(&rest[..n.min(8).min(rest.len())])
+}
+
+/// The little-endian number of at most eight bytes.
+#[tactic(auto, unfolding(format::specs::Number::little))]
+fn little(bytes: &[u8]) -> u64
+    requires { length bytes.now ≤ 8 }
+    ensures { result ≡ little bytes.now }
+{
+    let mut number = 0;
+    for byte in bytes.iter().rev() {
+        number = number * 256 + u64::from(*byte);
     }
-    if a <= 0xffff_ffff_ffff_ffff / b {
-        Word::Is(a * b)
+    number
+}
+
+/// Sign extension of a number of n bytes: less 256 to the n where its top bit is set. A number that n bytes can't hold
+/// also gets 256 to the n taken off.
+#[tactic(auto, using(crate::proofs::Signs::whole_fits, crate::proofs::Signs::plain), unfolding(format::specs::Number::twos, format::specs::Pick::pick))]
+pub fn extended(value: u64, n: usize) -> i128
+    ensures { result ≡ twos n value }
+{
+    if n > 8 {
+        return i128::from(value);
+    }
+    // n is at most 8 here, and the power at most 2^64: `as` loses nothing, and needs no answer for what can't be
+    let whole = 256_u128.pow(n as u32);
+    if u128::from(value) * 2 < whole {
+        i128::from(value)
     } else {
-        Word::Out
+        i128::from(value) - whole as i128
     }
 }
 
-pub fn wide(x: u8) -> u64
-    ensures { (result ≡ x) × (result ≤ 255) }
-{
-    x as u64
-}
-
-// The little-endian number of the n bytes from a place on, eight at most; bytes past the end count as none.
-pub fn number_at(s: &[u8], from: usize, n: usize) -> u64
-    ensures { result ≡ unsigned s.now from (eight_at_most n) }
-{
-    let count = in_reach(s.len(), from, eight_at_most(n));
-    let mut value: u64 = 0;
-    let mut i = count;
-    while 0 < i {
-        i = i - 1;
-        value = value * 256 + wide(s[from + i]);
-    }
-    value
-}
-
-fn eight_at_most(n: usize) -> usize
-    ensures { (result ≡ eight_at_most n) × (result ≤ 8) }
-{
-    if n <= 8 {
-        return n;
-    }
-    8
-}
-
-// How many of n bytes there are from a place on.
-fn in_reach(len: usize, from: usize, n: usize) -> usize
-    ensures { (result ≡ min n (len - from)) × (result ≤ n) × (result ≤ len - from) }
-{
-    if len <= from {
-        return 0;
-    }
-    if n <= len - from {
-        return n;
-    }
-    len - from
-}
-
-// The largest number of n bytes, eight at most.
-fn largest(n: usize) -> u64
-    requires { n ≤ 8 }
-    ensures { result + 1 ≡ 256 ^ n }
-{
-    let mut most: u64 = 0;
-    let mut i: usize = 0;
-    while i < n {
-        most = most * 256 + 255;
-        i = i + 1;
-    }
-    most
-}
-
-// Sign extension of a number of n bytes: less 256 to the n where the top bit is set.
-pub fn extended(value: u64, n: usize) -> Delta
-    ensures { to_ℤ result ≡ twos n value }
-{
-    if 8 < n {
-        return Delta::Up(value);
-    }
-    let most = largest(n);
-    if value <= most / 2 {
-        return Delta::Up(value);
-    }
-    if value <= most {
-        Delta::Down(most - value)
-    } else {
-        Delta::Up(value - most - 1)
-    }
-}
-
+// It goes through the powers, as the definition does: std's `is_power_of_two` counts bits.
+/// Whether n is a power of two.
+#[tactic(auto, using(crate::proofs::Powers::power_here, crate::proofs::Powers::power_later, crate::proofs::Powers::power_nowhere), unfolding(format::specs::Number::power_of_two))]
 pub fn power_of_two(n: u64) -> bool
     ensures { result ≡ power_of_two n }
 {
-    let mut k: u64 = 0;
-    while k < 64 {
+    for k in 0..u64::BITS {
         if n == 1 << k {
             return true;
         }
-        k = k + 1;
     }
     false
 }
 
-// A power of two from lo to hi.
+/// Whether n is a power of two from lo to hi.
+#[tactic(auto, unfolding(format::specs::Number::power_between, format::specs::Pick::pick))]
 pub fn power_between(lo: u64, hi: u64, n: u64) -> bool
     ensures { result ≡ power_between lo hi n }
 {
-    if !in_range(lo, hi, n) {
-        return false;
-    }
-    power_of_two(n)
+    in_range(lo, hi, n) && power_of_two(n)
 }
 
-// From lo to hi, both included.
+/// Whether n is from lo to hi, both included.
+#[tactic(auto, unfolding(format::specs::Number::between, format::specs::Pick::pick))]
 pub fn in_range(lo: u64, hi: u64, n: u64) -> bool
     ensures { result ≡ between lo hi n }
 {
-    if n < lo {
-        return false;
-    }
-    if hi < n {
-        return false;
-    }
-    true
+    (lo..=hi).contains(&n)
 }
 
-// A power of two from 512 to 2,097,152; asked at every call on a list, so it is a plain choice.
+/// Whether n is a sound cluster size: a power of two from 512 to 2,097,152 bytes.
+#[tactic(auto, using(crate::proofs::Powers::sound_size, crate::proofs::Powers::other_size))]
 pub fn cluster_sound(n: u64) -> bool
     ensures { result ≡ cluster_sound n }
 {
-    match n {
-        512
-        | 1024
-        | 2048
-        | 4096
-        | 8192
-        | 16384
-        | 32768
-        | 65536
-        | 131072
-        | 262144
-        | 524288
-        | 1048576
-        | 2097152 => true,
-        _ => false,
+    matches!(
+        n,
+        512 | 1024
+            | 2048
+            | 4096
+            | 8192
+            | 16384
+            | 32768
+            | 65536
+            | 131_072
+            | 262_144
+            | 524_288
+            | 1_048_576
+            | 2_097_152
+    )
+}
+
+/// A sound cluster size in bytes: a power of two from 512 to 2,097,152.
+#[derive(Clone, Copy, Debug, PartialEq, Eq)]
+pub struct ClusterSize {
+    bytes: u64,
+}
+
+impl Model for ClusterSize {
+    ghost use Rattle.std.specs.Prelude.{◌≡◌, ℕ, true};
+    ghost use Rattle.format.specs.Number.{cluster_sound};
+
+    ghost Value = { ℕ };
+
+    ghost view = { λ c. c.bytes };
+
+    ghost invariant = { λ c. cluster_sound c.bytes ≡ true };
+
+    ghost inverse = { λ n. record { bytes = n } };
+}
+
+impl ClusterSize {
+    /// The size, or none where it isn't sound.
+    #[tactic(auto, unfolding(format::specs::Pick::pick))]
+    pub fn new(bytes: u64) -> Option<ClusterSize>
+        ensures { result ≡ pick (cluster_sound bytes) (Some bytes) None }
+    {
+        if cluster_sound(bytes) {
+            Some(ClusterSize { bytes })
+        } else {
+            None
+        }
+    }
+
+    /// The size in bytes.
+    pub fn bytes(self) -> u64
+        ensures size { result ≡ self }
+        ensures sound { cluster_sound result ≡ true }
+    {
+        self.bytes
     }
 }

@@ -1,8 +1,0 @@
--- By cases of the answer.
-use Rattle.capi.proofs.answers.repaired.Goals as goal
-
-pub returns-in-Done : goal.returns-in-Done
-returns-in-Done c = rw c.in-Done.is c.accepted.ensures
-
-pub returns-in-Refused : goal.returns-in-Refused
-returns-in-Refused c = rw c.in-Refused.is c.refused.ensures

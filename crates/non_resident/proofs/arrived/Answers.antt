@@ -1,8 +1,0 @@
--- By cases of where going forward ended.
-use Rattle.non_resident.proofs.arrived.Goals as goal
-
-pub returns-in-At : goal.returns-in-At
-returns-in-At c = rw c.in-At.is
-
-pub returns-in-Refused : goal.returns-in-Refused
-returns-in-Refused c = rw c.in-Refused.is
