@@ -43,3 +43,15 @@ pub fn tell(rt: &(impl Print + Eprint), error: FileError<'_>) -> io::Result<()> 
          'archthimble help' has examples."
     )
 }
+
+#[cfg(test)]
+mod tests {
+    use super::*;
+
+    #[test]
+    fn the_front_of_a_file_is_read(rt: HostRuntime) {
+        let name = Word::Whole(Vec::from_slice(rt.alloc(), b"/dev/zero").expect(&rt, "memory"));
+        let front = front(&rt, &name, 512).expect(&rt, "a file without end");
+        assert!(rt; front.as_slice() == [0; 512].as_slice());
+    }
+}

@@ -99,3 +99,15 @@ pub fn number(rt: &impl Print, word: &Word) -> io::Result<Option<u64>> {
     }
     Ok(number)
 }
+
+#[cfg(test)]
+mod tests {
+    use super::*;
+
+    #[test]
+    fn a_list_is_bytes_in_hex(rt: HostRuntime) {
+        let word = Word::Whole(Vec::from_slice(rt.alloc(), b"11 020A ff").expect(&rt, "memory"));
+        let list = list(&rt, &word).expect(&rt, "a list").expect(&rt, "hex");
+        assert!(rt; list.as_slice() == [0x11, 0x02, 0x0a, 0xff].as_slice());
+    }
+}
