@@ -13,8 +13,8 @@ pub fn sample(rt: &impl Print) -> io::Result<()> {
     show(rt, &samples::boot())
 }
 
-pub fn file(rt: &(impl Print + Eprint + Files + AllocGlobal), name: &Word) -> io::Result<()> {
-    match files::front(rt, name, Geometry::LENGTH) {
+pub fn file(rt: &(impl Print + Eprint + Files), name: &Word) -> io::Result<()> {
+    match files::front::<_, { Geometry::LENGTH }>(rt, name) {
         Ok(sector) => show(rt, sector.as_slice()),
         Err(error) => files::tell(rt, error),
     }

@@ -1,5 +1,6 @@
 //! The front of a file that is named on the command line, or why it can't be read.
 use crate::words::Word;
+use arrayvec::ArrayVec;
 use std::fs::{File, Files};
 use std::io;
 use std::io::{Eprint, Read};
@@ -17,18 +18,17 @@ pub enum FileError<'a> {
     Read(#[from] io::Error),
 }
 
-/// The file's bytes, at most so many.
-pub fn front<'a, R: Files + AllocGlobal>(
+/// The file's bytes, at most N.
+pub fn front<'a, R: Files, const N: usize>(
     rt: &R,
     name: &'a Word,
-    most: usize,
-) -> Result<Vec<u8>, FileError<'a>> {
+) -> Result<ArrayVec<u8, N>, FileError<'a>> {
     let name = name.whole().ok_or(FileError::NameTooLong)?;
     let path = str::from_utf8(name).map_err(|_| FileError::NameNotUtf8)?;
     let file = File::open(rt, path).map_err(|error| FileError::Open { path, error })?;
-    let mut bytes = Vec::new(rt.alloc());
+    let mut bytes = ArrayVec::new();
     // std has no conversion of a usize into a u64 but `as`
-    file.take(most as u64).read_to_end(&mut bytes)?;
+    io::copy(&mut file.take(N as u64), &mut bytes)?;
     Ok(bytes)
 }
 
@@ -50,8 +50,8 @@ mod tests {
 
     #[test]
     fn the_front_of_a_file_is_read(rt: HostRuntime) {
-        let name = Word::Whole(Vec::from_slice(rt.alloc(), b"/dev/zero").expect(&rt, "memory"));
-        let front = front(&rt, &name, 512).expect(&rt, "a file without end");
+        let name = Word::Whole(b"/dev/zero");
+        let front = front::<_, 512>(&rt, &name).expect(&rt, "a file without end");
         assert!(rt; front.as_slice() == [0; 512].as_slice());
     }
 }

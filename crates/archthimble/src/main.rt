@@ -15,7 +15,8 @@ use std::io;
 use std::io::Eprint;
 use words::Word;
 
-const USAGE: &str = "\
+/// It is written at once, so that a reader that takes its first lines and closes breaks nothing.
+const USAGE: &[u8] = b"\
 archthimble shows what the parts of an NTFS disk say, by a proved library. It changes no file.
 
 archthimble                    a stretch of a stream, read from a run list that is built in
@@ -40,13 +41,10 @@ archthimble help               this
 A bar shows the stream from left to right: # lies on the disk, . in a hole.
 Behind an = sign a size is in clusters, and a place is in a cluster: 1000 bytes = 1 x 512 + 488.
 What is refused is named by its number and a sentence; the exit status is 0 all the same, so read
-the words. Numbers are decimal, from 0 to 2^64 - 1.";
+the words. Numbers are decimal, from 0 to 2^64 - 1.
+";
 
-fn run(
-    rt: &(impl Print + Eprint + Files + AllocGlobal),
-    command: &Word,
-    words: &[Word],
-) -> io::Result<()> {
+fn run(rt: &(impl Print + Eprint + Files), command: &Word, words: &[Word]) -> io::Result<()> {
     match (command.front(), words) {
         (b"boot", []) => boot::sample(rt),
         (b"boot", [file]) => boot::file(rt, file),
@@ -59,7 +57,7 @@ fn run(
             spans::typed(rt, list, [cluster, size, offset, length])
         }
         (b"spans", _) => example(rt, "spans '11 02 0A 00' 512 1000 0 1000"),
-        (b"help" | b"--help", _) => rt.println(USAGE),
+        (b"help" | b"--help", _) => rt.write_all(USAGE),
         (other, _) => unknown(rt, other),
     }
 }
@@ -73,12 +71,14 @@ fn example(rt: &impl Print, words: &str) -> io::Result<()> {
 fn unknown(rt: &impl Print, word: &[u8]) -> io::Result<()> {
     print!(rt; "archthimble does not know '")?;
     rt.write_all(word)?;
-    println!(rt; "'. This is what there is:\n\n{USAGE}")
+    println!(rt; "'. This is what there is:\n")?;
+    rt.write_all(USAGE)
 }
 
-/// An error here is one of printing or of memory. It is printed as std does it, where anyhow has other words.
+/// An error here is one of printing. It is printed as std does it, where anyhow has other words.
 fn main(rt: HostRuntime) -> io::Result<()> {
-    let words = words::typed(&rt)?;
+    let mut rooms = [[0; words::ROOM]; words::MOST];
+    let words = words::typed(&rt, &mut rooms);
     match words.as_slice() {
         [] | [_] => spans::sample(&rt),
         [_, command, words @ ..] => run(&rt, command, words),

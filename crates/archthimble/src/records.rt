@@ -7,11 +7,13 @@ use std::fs::Files;
 use std::io;
 use std::io::Eprint;
 
-/// One byte more than a record may have is asked for, so that a longer file is refused.
-pub fn file(rt: &(impl Print + Eprint + Files + AllocGlobal), name: &Word) -> io::Result<()> {
-    match files::front(rt, name, MAX_RECORD + 1) {
+/// One byte more than a record may have, so that a longer file is refused.
+const ROOM: usize = MAX_RECORD + 1;
+
+pub fn file(rt: &(impl Print + Eprint + Files), name: &Word) -> io::Result<()> {
+    match files::front::<_, ROOM>(rt, name) {
         Ok(mut bytes) => {
-            let before = bytes.clone()?;
+            let before = bytes.clone().unwrap();
             show(rt, bytes.as_mut_slice(), before.as_slice())
         }
         Err(error) => files::tell(rt, error),

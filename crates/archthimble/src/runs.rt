@@ -6,7 +6,7 @@ use crate::words::Word;
 use data_runs::{Cursor, DataRuns, Place, Run};
 use std::{fmt, io};
 
-pub fn typed(rt: &(impl Print + AllocGlobal), list: &Word, cluster: &Word) -> io::Result<()> {
+pub fn typed(rt: &impl Print, list: &Word, cluster: &Word) -> io::Result<()> {
     let list = words::list(rt, list)?;
     let cluster = words::number(rt, cluster)?;
     match list.zip(cluster) {

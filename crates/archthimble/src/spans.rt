@@ -52,7 +52,7 @@ pub fn sample(rt: &impl Print) -> io::Result<()> {
     show(rt, list, stretch)
 }
 
-pub fn typed(rt: &(impl Print + AllocGlobal), list: &Word, numbers: [&Word; 4]) -> io::Result<()> {
+pub fn typed(rt: &impl Print, list: &Word, numbers: [&Word; 4]) -> io::Result<()> {
     let list = words::list(rt, list)?;
     let numbers = numbers.try_map(|word| words::number(rt, word))?;
     let (Some(list), Some(stretch)) = (list, Stretch::of(numbers)) else {

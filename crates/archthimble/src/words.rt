@@ -1,35 +1,43 @@
 //! The words of the command line, and the bytes and numbers that they spell. A word need not be UTF-8, as std's
 //! `env::args` and the crate clap want it: it is printed as it was typed.
-use hex::FromHexError;
-use std::alloc::{AllocError, Global};
+use arrayvec::ArrayVec;
+use hex::FromHex;
 use std::env::{Env, FillError};
 use std::io;
 
 /// How many bytes of a word are read.
-const ROOM: usize = 4096;
+pub const ROOM: usize = 4096;
+
+/// How many words are read: with the program's own name one more than any command has, so that too many show.
+pub const MOST: usize = 8;
 
 /// A word as it was typed, or the front of one that is longer than the room for it.
-#[derive(Debug, Drop)]
-pub enum Word {
-    Whole(Vec<u8>),
-    Cut(Vec<u8>),
+#[derive(Clone, Copy, Debug)]
+pub enum Word<'a> {
+    Whole(&'a [u8]),
+    Cut(&'a [u8]),
 }
 
-impl Word {
-    /// Word i of the command line, where there is one.
-    fn typed(rt: &(impl Env + AllocGlobal), i: usize) -> Result<Option<Word>, AllocError> {
-        let mut buffer = [0; ROOM];
-        let word = match rt.arg(i, &mut buffer) {
-            Ok(len) => Word::Whole(Vec::from_slice(rt.alloc(), &buffer[..len])?),
-            Err(FillError::TooLong) => Word::Cut(Vec::from_slice(rt.alloc(), &buffer)?),
-            Err(FillError::NotPresent) => return Ok(None),
-        };
-        Ok(Some(word))
+/// A place that no word has been put into yet holds an empty one.
+impl Default for Word<'_> {
+    fn default() -> Self {
+        Word::Whole(&[])
+    }
+}
+
+impl<'a> Word<'a> {
+    /// Word i of the command line, where there is one. The room is what it is read into.
+    fn typed(rt: &impl Env, i: usize, room: &'a mut [u8]) -> Option<Word<'a>> {
+        match rt.arg(i, room) {
+            Ok(len) => Some(Word::Whole(&room[..len])),
+            Err(FillError::TooLong) => Some(Word::Cut(room)),
+            Err(FillError::NotPresent) => None,
+        }
     }
 
     pub fn whole(&self) -> Option<&[u8]> {
         match self {
-            Word::Whole(bytes) => Some(bytes.as_slice()),
+            Word::Whole(bytes) => Some(bytes),
             Word::Cut(_) => None,
         }
     }
@@ -37,30 +45,36 @@ impl Word {
     /// As much of the word as can be printed.
     pub fn front(&self) -> &[u8] {
         match self {
-            Word::Whole(bytes) | Word::Cut(bytes) => bytes.as_slice(),
+            Word::Whole(bytes) | Word::Cut(bytes) => bytes,
         }
     }
 }
 
-/// The words that were typed, the program's own name among them.
-pub fn typed(rt: &(impl Env + AllocGlobal)) -> Result<Vec<Word>, AllocError> {
-    let mut words = Vec::new(rt.alloc());
-    for i in 0..usize::MAX {
-        let Some(word) = Word::typed(rt, i)? else {
+/// The words that were typed, as many as there are rooms for.
+pub fn typed<'a>(rt: &impl Env, rooms: &'a mut [[u8; ROOM]; MOST]) -> ArrayVec<Word<'a>, MOST> {
+    let mut words = ArrayVec::new();
+    let rooms = rooms.iter_mut().enumerate();
+    for (i, room) in rooms {
+        let Some(word) = Word::typed(rt, i, room) else {
             break;
         };
-        words.push(word)?;
+        if words.try_push(word).is_err() {
+            break;
+        }
     }
-    Ok(words)
+    words
 }
 
 /// Bytes in hex: a blank stands between bytes, not inside one.
-fn bytes(alloc: Global, text: &[u8]) -> Result<Vec<u8>, FromHexError> {
-    let mut list = Vec::new(alloc);
-    for digits in text.split(|byte| *byte == b' ') {
-        list.extend_from_slice(hex::decode(alloc, digits)?.as_slice())?;
+fn bytes(text: &[u8]) -> Option<ArrayVec<u8, ROOM>> {
+    let mut list = ArrayVec::new();
+    for piece in text.split(|byte| *byte == b' ') {
+        for digits in piece.chunks(2) {
+            let [byte] = <[u8; 1]>::from_hex(digits).ok()?;
+            list.try_push(byte).ok()?;
+        }
     }
-    Ok(list)
+    Some(list)
 }
 
 /// A decimal number of 64 bits. It is digits alone, where `parse` takes a sign too.
@@ -72,19 +86,16 @@ fn decimal(text: &[u8]) -> Option<u64> {
 }
 
 /// The run list that the word spells; where it spells none, that is said.
-pub fn list(rt: &(impl Print + AllocGlobal), word: &Word) -> io::Result<Option<Vec<u8>>> {
+pub fn list(rt: &impl Print, word: &Word) -> io::Result<Option<ArrayVec<u8, ROOM>>> {
     let Some(text) = word.whole() else {
         println!(rt; "The list is too long: as it is typed it may have {ROOM} characters.")?;
         return Ok(None);
     };
-    match bytes(rt.alloc(), text) {
-        Ok(list) => Ok(Some(list)),
-        Err(FromHexError::OutOfMemory) => Err(io::Error::from(AllocError)),
-        Err(_) => {
-            println!(rt; "The list must be whole bytes in hex, as in: '11 02 0A 00'")?;
-            Ok(None)
-        }
+    let list = bytes(text);
+    if list.is_none() {
+        println!(rt; "The list must be whole bytes in hex, as in: '11 02 0A 00'")?;
     }
+    Ok(list)
 }
 
 /// The number that the word spells; where it spells none, that is said.
@@ -106,7 +117,7 @@ mod tests {
 
     #[test]
     fn a_list_is_bytes_in_hex(rt: HostRuntime) {
-        let word = Word::Whole(Vec::from_slice(rt.alloc(), b"11 020A ff").expect(&rt, "memory"));
+        let word = Word::Whole(b"11 020A ff");
         let list = list(&rt, &word).expect(&rt, "a list").expect(&rt, "hex");
         assert!(rt; list.as_slice() == [0x11, 0x02, 0x0a, 0xff].as_slice());
     }

@@ -37,11 +37,7 @@ pub(crate) fn two(first: u64, second: u64) -> [u64; OUT]
 pub(crate) fn number(number: Option<u64>) -> [u64; OUT]
     ensures { accepted result ≡ tell_word number }
 {
-    if let Some(number) = number {
-        two(1, number)
-    } else {
-        NOTHING
-    }
+    two(u64::from(number.is_some()), number.unwrap_or(0))
 }
 
 /// A value as a word, a negative one in two's complement; 0 for none.

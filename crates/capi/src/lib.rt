@@ -28,7 +28,7 @@ ghost use Rattle.capi.specs.Words.{Tells, Mends, Keeps, Reads};
 use boot_sector::Geometry;
 use data_runs::Cursor;
 use non_resident::Reader;
-use stores::{SHORT, put, tell};
+use stores::{SHORT, accept, put, refuse, tell};
 use types::Lcn;
 
 /// An LCN plus a signed delta. `out`: 1 and the sum, or 0 where it is below 0 or over 2^64 - 1. Never refused.
@@ -36,7 +36,7 @@ pub fn archthimble_lcn_plus(lcn: u64, delta: i64, out: &mut [u64]) -> u64
     ensures { Tells (tell_word (within_ℤ (pos lcn +ℤ delta))) (fits out.old) out.old result out.new }
 {
     let sum = Lcn(lcn).plus(delta).map(|sum| sum.0);
-    tell(out, Ok(answers::number(sum)))
+    accept(out, answers::number(sum))
 }
 
 /// An LCN's byte position. `out`: 1 and the position, or 0 where it is over 2^64 - 1. Any cluster size will do; never
@@ -44,7 +44,7 @@ pub fn archthimble_lcn_plus(lcn: u64, delta: i64, out: &mut [u64]) -> u64
 pub fn archthimble_lcn_position(lcn: u64, cluster: u64, out: &mut [u64]) -> u64
     ensures { Tells (tell_word (within (lcn * cluster))) (fits out.old) out.old result out.new }
 {
-    tell(out, Ok(answers::number(Lcn(lcn).position(cluster))))
+    accept(out, answers::number(Lcn(lcn).position(cluster)))
 }
 
 /// What a boot sector says. `out`: sector size, cluster size, total sectors, MFT LCN, MFT mirror LCN, file record
@@ -185,8 +185,14 @@ pub fn archthimble_data_position(reader: &[u64], out: &mut [u64]) -> u64
     let Some(words) = reader.first_chunk() else {
         return SHORT;
     };
-    tell(
-        out,
-        reader::unpack(words).data_position().map(answers::number),
-    )
+    let Some(out) = out.first_chunk_mut() else {
+        return SHORT;
+    };
+    match reader::unpack(words).data_position() {
+        Ok(position) => {
+            *out = answers::number(position);
+            0
+        }
+        Err(why) => refuse(out, why),
+    }
 }

@@ -86,12 +86,22 @@ fn clusters(rt: &impl Print) -> io::Result<()> {
         let name = format_args!("sectors per cluster {sectors}");
         case(rt, name, &[(13, sectors)])?;
     }
+    Ok(())
+}
+
+fn sector_sizes(rt: &impl Print) -> io::Result<()> {
     for (name, per_cluster, sizes) in SECTOR_SIZES {
-        for size in sizes {
-            let [low, high] = size.to_le_bytes();
-            let changes = [(13, per_cluster), (11, low), (12, high)];
-            case(rt, format_args!("{name} {size}"), &changes)?;
-        }
+        sized(rt, name, per_cluster, sizes)?;
+    }
+    Ok(())
+}
+
+/// A case for each sector size, with so many sectors per cluster.
+fn sized(rt: &impl Print, name: &str, per_cluster: u8, sizes: &[u16]) -> io::Result<()> {
+    for size in sizes {
+        let [low, high] = size.to_le_bytes();
+        let changes = [(13, per_cluster), (11, low), (12, high)];
+        case(rt, format_args!("{name} {size}"), &changes)?;
     }
     Ok(())
 }
@@ -130,6 +140,7 @@ pub fn cases(rt: &impl Print) -> io::Result<()> {
     lengths(rt)?;
     marks(rt)?;
     clusters(rt)?;
+    sector_sizes(rt)?;
     records(rt)?;
     for (name, changes) in ORDER {
         case(rt, name, changes)?;

@@ -64,7 +64,11 @@ fn targets(rt: &impl Print) -> io::Result<()> {
         opened.seek(rt, Whence::End, amount)?;
     }
     opened.seek(rt, Whence::Start, -1)?;
-    let last = opened.seek(rt, Whence::Start, MOST)?;
+    past_all(rt, opened.seek(rt, Whence::Start, MOST)?)
+}
+
+/// From the last place on, and back into the runs.
+fn past_all(rt: &impl Print, last: Trial<'_>) -> io::Result<()> {
     for amount in [1, LEAST + 1, 0] {
         last.seek(rt, Whence::Place, amount)?;
     }

@@ -6,9 +6,14 @@ use native.Mathlib.Omega.{arith}
 use borrow.Author.Tests.{ltb-false}
 use lib.Dec.{ltb}
 use Rattle.format.specs.Pick.{pick_not}
-use Rattle.format.specs.Record.{reaches_past}
+use Rattle.format.proofs.Powers.{between_bounds}
+use Rattle.format.specs.Record.{length_fits, min_record, max_record, reaches_past}
 
 -- what the tests before the sectors leave
+pub fits_bounds : (n : ℕ) → length_fits n ≡ true → (8 ≤ n) × (n ≤ 4096)
+unfolding length_fits
+fits_bounds n e = between_bounds min_record max_record n e
+
 pub reaches_not : (len offset count : ℕ) → reaches_past len offset count ≡ false → (offset + 2 * count ≤ len) × (512 * (count - 1) ≤ len)
 unfolding reaches_past
 reaches_not len offset count e =

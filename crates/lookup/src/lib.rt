@@ -2,7 +2,7 @@
 #![tactic(auto)]
 
 ghost use Rattle.std.specs.Prelude.{◌≡◌};
-ghost use Rattle.format.specs.Listed.{lookup, listed, run_list, looked_up};
+ghost use Rattle.format.specs.Listed.{lookup, listed, list_fits, run_list, looked_up};
 ghost use Rattle.lookup.specs.Shown.{shown};
 
 use data_runs::{Cursor, Place};
@@ -17,15 +17,23 @@ pub const MAX_LIST: usize = 4096;
 /// Refused is, in this order: `Unsound`, a cluster size that isn't a power of two from 512 to 2,097,152;
 /// `ListLength`, a list of more than 4,096 bytes; what a run that is met before the offset is refused with (13 to
 /// 19).
-#[tactic(auto, unfolding(format::specs::Listed::looked_up, format::specs::Listed::list_fits, format::specs::Pick::pick))]
+#[tactic(auto, unfolding(format::specs::Listed::looked_up, format::specs::Pick::pick))]
 pub fn lookup(list: &[u8], cluster: u64, offset: u64) -> Result<Option<Place>, Refusal>
     ensures { shown result ≡ looked_up cluster list.now offset }
 {
     let cluster = ClusterSize::new(cluster).ok_or(Refusal::Unsound)?;
-    if list.len() > MAX_LIST {
+    if !list_fits(list.len()) {
         return Err(Refusal::ListLength);
     }
     from(list, cluster, Cursor::START, offset)
+}
+
+/// Whether a list of so many bytes is looked up in.
+#[tactic(auto, unfolding(format::specs::Listed::list_fits))]
+fn list_fits(len: usize) -> bool
+    ensures { result ≡ list_fits len }
+{
+    len <= MAX_LIST
 }
 
 /// The same from a cursor on: the first run, or the rest of the list with the run's size taken off. It calls itself

@@ -3,7 +3,7 @@
 
 ghost use Rattle.std.specs.Prelude.{◌≡◌, ◌+◌, ◌*◌, ◌≤◌, length};
 ghost use Rattle.format.specs.Number.{unsigned};
-ghost use Rattle.format.specs.Record.{repair};
+ghost use Rattle.format.specs.Record.{repair, length_fits};
 ghost use Rattle.record.specs.Shown.{outcome, sectors_from, sector_at};
 
 use refusal::Refusal;
@@ -21,12 +21,12 @@ pub const MAX_RECORD: usize = 4096;
 /// isn't inside the record; `SequenceCount`, a count of 0; `SequenceArray`, a count whose entries or sectors reach past
 /// the record; `Torn`, the first sector that ends in other bytes. Sectors before a torn one stay repaired; a record
 /// that is refused for anything else is left as it was.
-#[tactic(auto, using(format::proofs::Record::reaches_not), unfolding(format::specs::Record::repair, format::specs::Record::length_fits, format::specs::Record::reaches_past, format::specs::Number::between, format::specs::Pick::pick))]
+#[tactic(auto, using(format::proofs::Record::fits_bounds, format::proofs::Record::reaches_not), unfolding(format::specs::Record::repair, format::specs::Record::reaches_past, format::specs::Pick::pick))]
 pub fn repair(lent: &mut [u8]) -> Result<(), Refusal>
     ensures { outcome result lent.new ≡ repair lent.old }
 {
     let len = lent.len();
-    if !(MIN_RECORD..=MAX_RECORD).contains(&len) {
+    if !length_fits(len) {
         return Err(Refusal::RecordLength { len });
     }
     let offset = usize::from(u16_at(lent, 4));
@@ -42,6 +42,14 @@ pub fn repair(lent: &mut [u8]) -> Result<(), Refusal>
     }
     let number = [lent[offset], lent[offset + 1]];
     mend_all(lent, offset, number, count - 1)
+}
+
+/// Whether a record may have so many bytes.
+#[tactic(auto, unfolding(format::specs::Record::length_fits, format::specs::Number::between, format::specs::Pick::pick))]
+fn length_fits(len: usize) -> bool
+    ensures { result ≡ length_fits len }
+{
+    (MIN_RECORD..=MAX_RECORD).contains(&len)
 }
 
 /// Mends the ends of so many sectors, up to a torn one.

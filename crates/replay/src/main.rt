@@ -37,8 +37,11 @@ fn head(file: &mut impl Read) -> Option<u64> {
 
 /// The next entry's kind and body, where all of it is there and fits the room.
 fn entry<'a>(file: &mut impl Read, room: &'a mut [u8]) -> Option<(u64, &'a mut [u8])> {
-    let kind = word(file)?;
-    let length = word(file)?;
+    let mut head = [0; 16];
+    file.read_exact(&mut head).ok()?;
+    let (kind, length) = head.split_first_chunk()?;
+    let kind = u64::from_le_bytes(*kind);
+    let length = u64::from_le_bytes(*length.first_chunk()?);
     let body = room.get_mut(..usize::try_from(length).ok()?)?;
     file.read_exact(body).ok()?;
     Some((kind, body))

@@ -79,7 +79,7 @@ fn little(bytes: &[u8]) -> u64
 
 /// Sign extension of a number of n bytes: less 256 to the n where its top bit is set. A number that n bytes can't hold
 /// also gets 256 to the n taken off.
-#[tactic(auto, using(crate::proofs::Signs::whole_fits, crate::proofs::Signs::plain), unfolding(format::specs::Number::twos, format::specs::Pick::pick))]
+#[tactic(auto, using(crate::proofs::Signs::shifted, crate::proofs::Signs::whole_fits, crate::proofs::Signs::plain), unfolding(format::specs::Number::twos, format::specs::Pick::pick))]
 pub fn extended(value: u64, n: usize) -> i128
     ensures { result ≡ twos n value }
 {
@@ -87,7 +87,7 @@ pub fn extended(value: u64, n: usize) -> i128
         return i128::from(value);
     }
     // n is at most 8 here, and the power at most 2^64: `as` loses nothing, and needs no answer for what can't be
-    let whole = 256_u128.pow(n as u32);
+    let whole = 1_u128 << (8 * n);
     if u128::from(value) * 2 < whole {
         i128::from(value)
     } else {
