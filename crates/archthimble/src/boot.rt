@@ -1,8 +1,9 @@
 //! `archthimble boot`: a boot sector's geometry as a table, or why it is refused.
 use crate::files;
 use crate::table::{Clusters, explain};
-use crate::words::Word;
+use crate::words::{ROOM, Word};
 use boot_sector::Geometry;
+use std::env::Env;
 use std::fs::Files;
 use std::io;
 use std::io::Eprint;
@@ -13,9 +14,11 @@ pub fn sample(rt: &impl Print) -> io::Result<()> {
     show(rt, &samples::boot())
 }
 
-pub fn file(rt: &(impl Print + Eprint + Files), name: &Word) -> io::Result<()> {
-    match files::front::<_, { Geometry::LENGTH }>(rt, name) {
-        Ok(sector) => show(rt, sector.as_slice()),
+pub fn file(rt: &(impl Print + Eprint + Env + Files), name: Word) -> io::Result<()> {
+    let mut room = [0; ROOM];
+    let mut sector = [0; Geometry::LENGTH];
+    match files::front(rt, name.read(rt, &mut room), &mut sector) {
+        Ok(sector) => show(rt, sector),
         Err(error) => files::tell(rt, error),
     }
 }

@@ -1,6 +1,7 @@
 //! The front of a file that is named on the command line, or why it can't be read.
-use crate::words::Word;
-use arrayvec::ArrayVec;
+ghost use Rattle.std.specs.Prelude.{◌≤◌, length, IfOk};
+
+use crate::words::Text;
 use std::fs::{File, Files};
 use std::io;
 use std::io::{Eprint, Read};
@@ -18,18 +19,34 @@ pub enum FileError<'a> {
     Read(#[from] io::Error),
 }
 
-/// The file's bytes, at most N.
-pub fn front<'a, R: Files, const N: usize>(
-    rt: &R,
-    name: &'a Word,
-) -> Result<ArrayVec<u8, N>, FileError<'a>> {
+/// The front of the file in the room: as many of its bytes as there is room for.
+pub fn front<'a, 'r>(
+    rt: &impl Files,
+    name: Text<'a>,
+    room: &'r mut [u8],
+) -> Result<&'r mut [u8], FileError<'a>>
+    ensures { IfOk result (λ front. length front.now ≤ length room.old) }
+{
     let name = name.whole().ok_or(FileError::NameTooLong)?;
     let path = str::from_utf8(name).map_err(|_| FileError::NameNotUtf8)?;
-    let file = File::open(rt, path).map_err(|error| FileError::Open { path, error })?;
-    let mut bytes = ArrayVec::new();
-    // std has no conversion of a usize into a u64 but `as`
-    io::copy(&mut file.take(N as u64), &mut bytes)?;
-    Ok(bytes)
+    let mut file = File::open(rt, path).map_err(|error| FileError::Open { path, error })?;
+    let len = read_full(&mut file, room)?;
+    Ok(&mut room[..len])
+}
+
+/// Reads until the room is full or the file is over, and answers how many bytes came.
+fn read_full(file: &mut impl Read, room: &mut [u8]) -> io::Result<usize>
+    ensures { IfOk result (λ n. n ≤ length room.new) }
+{
+    let mut len = 0;
+    for _ in 0..room.len() {
+        let read = file.read(&mut room[len..])?;
+        len += read;
+        if read == 0 || len == room.len() {
+            break;
+        }
+    }
+    Ok(len)
 }
 
 /// Says why a file could not be read. Where standard error can't be written, the sentence on standard output has to do.
@@ -50,8 +67,9 @@ mod tests {
 
     #[test]
     fn the_front_of_a_file_is_read(rt: HostRuntime) {
-        let name = Word::Whole(b"/dev/zero");
-        let front = front::<_, 512>(&rt, &name).expect(&rt, "a file without end");
-        assert!(rt; front.as_slice() == [0; 512].as_slice());
+        let mut room = [1; 512];
+        let front = front(&rt, Text::Whole(b"/dev/zero"), &mut room);
+        let front = front.expect(&rt, "a file without end");
+        assert!(rt; &*front == [0; 512].as_slice());
     }
 }

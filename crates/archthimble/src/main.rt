@@ -13,7 +13,7 @@ use std::env::Env;
 use std::fs::Files;
 use std::io;
 use std::io::Eprint;
-use words::Word;
+use words::{ROOM, Word};
 
 /// It is written at once, so that a reader that takes its first lines and closes breaks nothing.
 const USAGE: &[u8] = b"\
@@ -44,17 +44,18 @@ What is refused is named by its number and a sentence; the exit status is 0 all 
 the words. Numbers are decimal, from 0 to 2^64 - 1.
 ";
 
-fn run(rt: &(impl Print + Eprint + Files), command: &Word, words: &[Word]) -> io::Result<()> {
-    match (command.front(), words) {
+fn run(rt: &(impl Print + Eprint + Env + Files), command: Word, words: &[Word]) -> io::Result<()> {
+    let mut room = [0; ROOM];
+    match (command.read(rt, &mut room).front(), words) {
         (b"boot", []) => boot::sample(rt),
-        (b"boot", [file]) => boot::file(rt, file),
+        (b"boot", [file]) => boot::file(rt, *file),
         (b"boot", _) => example(rt, "boot disk.img"),
-        (b"record", [file]) => records::file(rt, file),
+        (b"record", [file]) => records::file(rt, *file),
         (b"record", _) => example(rt, "record record.bin"),
-        (b"runs", [list, cluster]) => runs::typed(rt, list, cluster),
+        (b"runs", [list, cluster]) => runs::typed(rt, *list, *cluster),
         (b"runs", _) => example(rt, "runs '11 02 0A 00' 512"),
         (b"spans", [list, cluster, size, offset, length]) => {
-            spans::typed(rt, list, [cluster, size, offset, length])
+            spans::typed(rt, *list, [*cluster, *size, *offset, *length])
         }
         (b"spans", _) => example(rt, "spans '11 02 0A 00' 512 1000 0 1000"),
         (b"help" | b"--help", _) => rt.write_all(USAGE),
@@ -77,10 +78,8 @@ fn unknown(rt: &impl Print, word: &[u8]) -> io::Result<()> {
 
 /// An error here is one of printing. It is printed as std does it, where anyhow has other words.
 fn main(rt: HostRuntime) -> io::Result<()> {
-    let mut rooms = [[0; words::ROOM]; words::MOST];
-    let words = words::typed(&rt, &mut rooms);
-    match words.as_slice() {
+    match words::typed(&rt).as_slice() {
         [] | [_] => spans::sample(&rt),
-        [_, command, words @ ..] => run(&rt, command, words),
+        [_, command, words @ ..] => run(&rt, *command, words),
     }
 }

@@ -1,20 +1,24 @@
 //! `archthimble record`: repairs a copy of a record in memory, and says what was found; the file is never written.
 use crate::files;
 use crate::table::explain;
-use crate::words::Word;
+use crate::words::{ROOM, Word};
 use record::{MAX_RECORD, MIN_RECORD};
+use std::env::Env;
 use std::fs::Files;
 use std::io;
 use std::io::Eprint;
 
 /// One byte more than a record may have, so that a longer file is refused.
-const ROOM: usize = MAX_RECORD + 1;
+const MOST: usize = MAX_RECORD + 1;
 
-pub fn file(rt: &(impl Print + Eprint + Files), name: &Word) -> io::Result<()> {
-    match files::front::<_, ROOM>(rt, name) {
-        Ok(mut bytes) => {
-            let before = bytes.clone().unwrap();
-            show(rt, bytes.as_mut_slice(), before.as_slice())
+pub fn file(rt: &(impl Print + Eprint + Env + Files), name: Word) -> io::Result<()> {
+    let mut room = [0; ROOM];
+    let mut bytes = [0; MOST];
+    match files::front(rt, name.read(rt, &mut room), &mut bytes) {
+        Ok(bytes) => {
+            let mut before = [0; MOST];
+            before[..bytes.len()].copy_from_slice(bytes);
+            show(rt, bytes, &before)
         }
         Err(error) => files::tell(rt, error),
     }

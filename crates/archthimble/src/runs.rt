@@ -2,15 +2,17 @@
 //! in holes.
 use crate::table::{Clusters, Spot, explain};
 use crate::words;
-use crate::words::Word;
+use crate::words::{ROOM, Word};
 use data_runs::{Cursor, DataRuns, Place, Run};
+use std::env::Env;
 use std::{fmt, io};
 
-pub fn typed(rt: &impl Print, list: &Word, cluster: &Word) -> io::Result<()> {
-    let list = words::list(rt, list)?;
+pub fn typed(rt: &(impl Print + Env), list: Word, cluster: Word) -> io::Result<()> {
+    let mut room = [0; ROOM];
+    let list = words::list(rt, list, &mut room)?;
     let cluster = words::number(rt, cluster)?;
     match list.zip(cluster) {
-        Some((list, cluster)) => show(rt, list.as_slice(), cluster),
+        Some((list, cluster)) => show(rt, list, cluster),
         None => Ok(()),
     }
 }

@@ -2,10 +2,11 @@
 use crate::runs::Bar;
 use crate::table::{Spot, explain};
 use crate::words;
-use crate::words::Word;
+use crate::words::{ROOM, Word};
 use data_runs::Place;
 use non_resident::{Reader, Whence};
 use refusal::Refusal;
+use std::env::Env;
 use std::io;
 
 /// How many spans a read has room for, of three words each.
@@ -52,13 +53,14 @@ pub fn sample(rt: &impl Print) -> io::Result<()> {
     show(rt, list, stretch)
 }
 
-pub fn typed(rt: &impl Print, list: &Word, numbers: [&Word; 4]) -> io::Result<()> {
-    let list = words::list(rt, list)?;
+pub fn typed(rt: &(impl Print + Env), list: Word, numbers: [Word; 4]) -> io::Result<()> {
+    let mut room = [0; ROOM];
+    let list = words::list(rt, list, &mut room)?;
     let numbers = numbers.try_map(|word| words::number(rt, word))?;
     let (Some(list), Some(stretch)) = (list, Stretch::of(numbers)) else {
         return Ok(());
     };
-    show(rt, list.as_slice(), stretch)
+    show(rt, list, stretch)
 }
 
 fn show(rt: &impl Print, list: &[u8], stretch: Stretch) -> io::Result<()> {

@@ -8,73 +8,73 @@ use std::io;
 /// How many bytes of a word are read.
 pub const ROOM: usize = 4096;
 
-/// How many words are read: with the program's own name one more than any command has, so that too many show.
-pub const MOST: usize = 8;
+/// How many words are looked at: with the program's own name one more than any command has, so that too many show.
+const MOST: usize = 8;
 
-/// A word as it was typed, or the front of one that is longer than the room for it.
+/// A word of the command line, by its place there. It is read where it is needed, so that there is one room at a time.
+#[derive(Clone, Copy, Debug, Default)]
+pub struct Word(usize);
+
+/// What a word spells, or the front of one that is longer than the room for it.
 #[derive(Clone, Copy, Debug)]
-pub enum Word<'a> {
+pub enum Text<'a> {
     Whole(&'a [u8]),
     Cut(&'a [u8]),
 }
 
-/// A place that no word has been put into yet holds an empty one.
-impl Default for Word<'_> {
-    fn default() -> Self {
-        Word::Whole(&[])
+impl Word {
+    fn is_typed(self, rt: &impl Env) -> bool {
+        !matches!(rt.arg(self.0, &mut []), Err(FillError::NotPresent))
+    }
+
+    /// What the word spells; the room is what it is read into.
+    pub fn read<'a>(self, rt: &impl Env, room: &'a mut [u8; ROOM]) -> Text<'a> {
+        match rt.arg(self.0, room) {
+            Ok(len) => Text::Whole(&room[..len]),
+            Err(FillError::TooLong) => Text::Cut(room),
+            Err(FillError::NotPresent) => Text::Cut(&[]),
+        }
     }
 }
 
-impl<'a> Word<'a> {
-    /// Word i of the command line, where there is one. The room is what it is read into.
-    fn typed(rt: &impl Env, i: usize, room: &'a mut [u8]) -> Option<Word<'a>> {
-        match rt.arg(i, room) {
-            Ok(len) => Some(Word::Whole(&room[..len])),
-            Err(FillError::TooLong) => Some(Word::Cut(room)),
-            Err(FillError::NotPresent) => None,
-        }
-    }
-
-    pub fn whole(&self) -> Option<&[u8]> {
+impl<'a> Text<'a> {
+    pub fn whole(self) -> Option<&'a [u8]> {
         match self {
-            Word::Whole(bytes) => Some(bytes),
-            Word::Cut(_) => None,
+            Text::Whole(bytes) => Some(bytes),
+            Text::Cut(_) => None,
         }
     }
 
     /// As much of the word as can be printed.
-    pub fn front(&self) -> &[u8] {
+    pub fn front(self) -> &'a [u8] {
         match self {
-            Word::Whole(bytes) | Word::Cut(bytes) => bytes,
+            Text::Whole(bytes) | Text::Cut(bytes) => bytes,
         }
     }
 }
 
-/// The words that were typed, as many as there are rooms for.
-pub fn typed<'a>(rt: &impl Env, rooms: &'a mut [[u8; ROOM]; MOST]) -> ArrayVec<Word<'a>, MOST> {
+/// The words that were typed, the program's own name among them; of many the first.
+pub fn typed(rt: &impl Env) -> ArrayVec<Word, MOST> {
     let mut words = ArrayVec::new();
-    let rooms = rooms.iter_mut().enumerate();
-    for (i, room) in rooms {
-        let Some(word) = Word::typed(rt, i, room) else {
-            break;
-        };
-        if words.try_push(word).is_err() {
+    for word in (0..MOST).map(Word) {
+        if !word.is_typed(rt) || words.try_push(word).is_err() {
             break;
         }
     }
     words
 }
 
-/// Bytes in hex: a blank stands between bytes, not inside one.
-fn bytes(text: &[u8]) -> Option<ArrayVec<u8, ROOM>> {
-    let mut list = ArrayVec::new();
+/// Bytes in hex, put into the room: a blank stands between bytes, not inside one.
+fn bytes<'a>(text: &[u8], room: &'a mut [u8; ROOM]) -> Option<&'a [u8]> {
+    let mut len = 0;
     for piece in text.split(|byte| *byte == b' ') {
         for digits in piece.chunks(2) {
             let [byte] = <[u8; 1]>::from_hex(digits).ok()?;
-            list.try_push(byte).ok()?;
+            *room.get_mut(len)? = byte;
+            len += 1;
         }
     }
-    Some(list)
+    room.get(..len)
 }
 
 /// A decimal number of 64 bits. It is digits alone, where `parse` takes a sign too.
@@ -85,13 +85,26 @@ fn decimal(text: &[u8]) -> Option<u64> {
     str::from_utf8(text).ok()?.parse().ok()
 }
 
-/// The run list that the word spells; where it spells none, that is said.
-pub fn list(rt: &impl Print, word: &Word) -> io::Result<Option<ArrayVec<u8, ROOM>>> {
-    let Some(text) = word.whole() else {
+/// The run list that the word spells, put into the room; where it spells none, that is said.
+pub fn list<'a>(
+    rt: &(impl Print + Env),
+    word: Word,
+    room: &'a mut [u8; ROOM],
+) -> io::Result<Option<&'a [u8]>> {
+    let mut text = [0; ROOM];
+    spelled(rt, word.read(rt, &mut text), room)
+}
+
+fn spelled<'a>(
+    rt: &impl Print,
+    text: Text<'_>,
+    room: &'a mut [u8; ROOM],
+) -> io::Result<Option<&'a [u8]>> {
+    let Some(text) = text.whole() else {
         println!(rt; "The list is too long: as it is typed it may have {ROOM} characters.")?;
         return Ok(None);
     };
-    let list = bytes(text);
+    let list = bytes(text, room);
     if list.is_none() {
         println!(rt; "The list must be whole bytes in hex, as in: '11 02 0A 00'")?;
     }
@@ -99,10 +112,12 @@ pub fn list(rt: &impl Print, word: &Word) -> io::Result<Option<ArrayVec<u8, ROOM
 }
 
 /// The number that the word spells; where it spells none, that is said.
-pub fn number(rt: &impl Print, word: &Word) -> io::Result<Option<u64>> {
-    let number = word.whole().and_then(decimal);
+pub fn number(rt: &(impl Print + Env), word: Word) -> io::Result<Option<u64>> {
+    let mut room = [0; ROOM];
+    let text = word.read(rt, &mut room);
+    let number = text.whole().and_then(decimal);
     if number.is_none() {
-        rt.write_all(word.front())?;
+        rt.write_all(text.front())?;
         println!(rt;
             ": this must be a number from 0 to {}, in digits.",
             u64::MAX
@@ -117,8 +132,9 @@ mod tests {
 
     #[test]
     fn a_list_is_bytes_in_hex(rt: HostRuntime) {
-        let word = Word::Whole(b"11 020A ff");
-        let list = list(&rt, &word).expect(&rt, "a list").expect(&rt, "hex");
-        assert!(rt; list.as_slice() == [0x11, 0x02, 0x0a, 0xff].as_slice());
+        let mut room = [0; ROOM];
+        let list = spelled(&rt, Text::Whole(b"11 020A ff"), &mut room);
+        let list = list.expect(&rt, "a list").expect(&rt, "hex");
+        assert!(rt; list == [0x11, 0x02, 0x0a, 0xff].as_slice());
     }
 }

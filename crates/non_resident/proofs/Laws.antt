@@ -53,6 +53,14 @@ here_sound (Some r) d e = go r.place (run_fits (shown_run r) d e)
     go (Disk p) h = rw (pick_yes (Some (p + d)) None (lt-ltb (p + d) (2 ^ 64) h)) refl
     go Hole h = refl
 
+-- the place of a sound displacement is no sum that is too large
+pub no_end : (r : RunOf) (d p : ℕ) → current_sound (Some (shown_run r)) d ≡ true → r.place ≡ Disk p → p + d < 2 ^ 64
+no_end r d p e h = subst (λ x. Inside (shown_place x) d) h (run_fits (shown_run r) d e)
+
+pub stands : (r : ReaderOf) → sound (seen r) ≡ true → current_sound (option_map shown_run r.stand.current) r.stand.displacement ≡ true
+unfolding sound
+stands r e = (pick_true (not (cluster_sound r.cluster)) _ e).1
+
 -- data position of a sound reader, by the code's place
 position_rule : (r : ReaderOf) → sound (seen r) ≡ true → given (position_of (shown_place (place_at r.stand.current r.stand.displacement))) ≡ standing (seen r)
 unfolding sound standing

@@ -252,7 +252,7 @@ impl Reader {
 
     /// The disk position of the reader's place in its current run, or none in a hole or without a run. Refused is
     /// `Unsound`, as by [`Reader::seek`], but for the cursor, which isn't judged.
-    #[tactic(auto, using(crate::proofs::Laws::on_disk, crate::proofs::Laws::in_hole), unfolding(format::specs::Calls::standing, format::specs::Pick::pick))]
+    #[tactic(auto, using(crate::proofs::Laws::stands, crate::proofs::Laws::on_disk, crate::proofs::Laws::in_hole), unfolding(format::specs::Calls::standing, format::specs::Pick::pick))]
     pub fn data_position(self) -> Result<Option<u64>, Refusal>
         ensures { shown_position result ≡ standing (seen self) }
     {

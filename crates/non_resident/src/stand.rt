@@ -1,6 +1,6 @@
 //! Where a reader stands in its list.
 
-ghost use Rattle.std.specs.Prelude.{◌≡◌, ◌+◌, ◌<◌, ◌^◌};
+ghost use Rattle.std.specs.Prelude.{◌≡◌, true, ◌+◌, ◌<◌, ◌^◌};
 ghost use Rattle.format.specs.Listed.{run_list, listed};
 ghost use Rattle.format.specs.Reader.{left, entered, settle, forward};
 ghost use Rattle.format.specs.Calls.{place_sound, current_sound};
@@ -103,13 +103,17 @@ impl Stand {
         }
     }
 
-    /// The place of the displacement in the current run; a hole without one, or past 2^64 - 1, where no sound reader
-    /// stands.
+    /// The place of the displacement in the current run; a hole without one.
+    #[tactic(auto, using(crate::proofs::Laws::no_end), unfolding(format::specs::Number::within, format::specs::Pick::pick))]
     pub(crate) fn here(self) -> Place
+        requires { current_sound (shown_current self.current) self.displacement ≡ true }
         ensures { result ≡ place_at self.current self.displacement }
     {
         match self.current {
-            Some(run) => run.place.further(self.displacement).unwrap_or(Place::Hole),
+            Some(run) => match run.place {
+                Place::Disk(place) => Place::Disk(place + self.displacement),
+                Place::Hole => Place::Hole,
+            },
             None => Place::Hole,
         }
     }

@@ -30,11 +30,10 @@ impl Lcn {
     }
 
     /// The byte position of the LCN's first byte, or none where it is over 2^64 - 1.
-    #[tactic(auto, unfolding(format::specs::Number::within, format::specs::Pick::pick))]
     pub fn position(self, cluster: u64) -> Option<u64>
         ensures { result ≡ within (self.0 * cluster) }
     {
-        self.0.checked_mul(cluster)
+        times(self.0, cluster)
     }
 }
 
@@ -52,7 +51,8 @@ pub fn sum(base: u64, delta: i128) -> Option<u64>
 pub fn times(a: u64, b: u64) -> Option<u64>
     ensures { result ≡ within (a * b) }
 {
-    a.checked_mul(b)
+    let (product, over) = a.overflowing_mul(b);
+    (!over).then_some(product)
 }
 
 /// The little-endian number of the n bytes from a place on, eight at most; bytes past the end count as none.
