@@ -34,6 +34,7 @@ pub fn front<'a, 'r>(
     Ok(&mut room[..len])
 }
 
+// std's `read_to_end` takes memory, and doesn't say how much of a file it reads.
 /// Reads until the room is full or the file is over, and answers how many bytes came.
 fn read_full(file: &mut impl Read, room: &mut [u8]) -> io::Result<usize>
     ensures { IfOk result (λ n. n ≤ length room.new) }

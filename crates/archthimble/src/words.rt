@@ -1,7 +1,6 @@
 //! The words of the command line, and the bytes and numbers that they spell. A word need not be UTF-8, as std's
 //! `env::args` and the crate clap want it: it is printed as it was typed.
 use arrayvec::ArrayVec;
-use hex::FromHex;
 use std::env::{Env, FillError};
 use std::io;
 
@@ -11,7 +10,8 @@ pub const ROOM: usize = 4096;
 /// How many words are looked at: with the program's own name one more than any command has, so that too many show.
 const MOST: usize = 8;
 
-/// A word of the command line, by its place there. It is read where it is needed, so that there is one room at a time.
+/// A word of the command line, by its place there. It is read where it is needed, so that there is no room for a word
+/// that isn't.
 #[derive(Clone, Copy, Debug, Default)]
 pub struct Word(usize);
 
@@ -64,15 +64,14 @@ pub fn typed(rt: &impl Env) -> ArrayVec<Word, MOST> {
     words
 }
 
+// A Vec would take memory, which no command needs.
 /// Bytes in hex, put into the room: a blank stands between bytes, not inside one.
 fn bytes<'a>(text: &[u8], room: &'a mut [u8; ROOM]) -> Option<&'a [u8]> {
-    let mut len = 0;
+    let mut len = 0_usize;
     for piece in text.split(|byte| *byte == b' ') {
-        for digits in piece.chunks(2) {
-            let [byte] = <[u8; 1]>::from_hex(digits).ok()?;
-            *room.get_mut(len)? = byte;
-            len += 1;
-        }
+        let end = len.checked_add(piece.len() / 2)?;
+        hex::decode_to_slice(piece, room.get_mut(len..end)?).ok()?;
+        len = end;
     }
     room.get(..len)
 }
